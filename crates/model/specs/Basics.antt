@@ -11,6 +11,10 @@ pick b x y = elim b [ true ↦ x | false ↦ y ]
 abbrev pub in-run : ℕ → ℕ → ℕ → Bool
 in-run from n k = leb from k && ltb k (from + n)
 
+-- 1 where it is true
+abbrev pub bit : Bool → ℕ
+bit b = pick b 1 0
+
 -- the dot i, j lies in the box of w by h dots whose upper left dot is x, y
 unfoldable pub in-box : ℕ → ℕ → ℕ → ℕ → ℕ → ℕ → Bool
 in-box x y w h i j = in-run x w i && in-run y h j

@@ -1,2 +1,7 @@
 pub mod Basics
 pub mod Desk
+pub mod Promise
+pub mod System
+pub mod Kept
+pub mod Grid
+pub mod Worked

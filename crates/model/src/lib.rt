@@ -1,1 +1,41 @@
-// The desk as definitions.
+// The desk: what a window system has to do, as definitions (specs/), and the theorems about them.
+// Each function below does nothing but carry a theorem as its contract: the crate is not proved unless the theorem is.
+ghost use Rattle.model.specs.Promise.{Keys-to, Held-by, Ordered, By-owner, By-paint, Unseen};
+ghost use Rattle.model.specs.Kept.{Every-cover, Simulation, Unseen-of};
+
+// The keys go to a window that is there, and so does the pointer while it is held.
+pub fn keys_stand() -> u8
+    ensures keys { λ _. ⌜ Keys-to ⌝ }
+    ensures held { λ _. ⌜ Held-by ⌝ }
+{
+    0
+}
+
+// Every window that is there stands in the order once, and no other.
+pub fn order_stands() -> u8
+    ensures { λ _. ⌜ Ordered ⌝ }
+{
+    0
+}
+
+// A picture is changed by its owner only, and only by paint.
+pub fn pictures_stand() -> u8
+    ensures owner { λ _. ⌜ By-owner ⌝ }
+    ensures paint { λ _. ⌜ By-paint ⌝ }
+{
+    0
+}
+
+// A program is told the same, with any paint of others and any keys typed for others.
+pub fn unseen_stands() -> u8
+    ensures { λ _. ⌜ Unseen ⌝ }
+{
+    0
+}
+
+// The same, of any system that tells what the desk tells.
+pub fn unseen_of_stands<S>() -> u8
+    ensures { λ _. ⌜ Unseen-of S ⌝ }
+{
+    0
+}
