@@ -6,3 +6,7 @@ pub mod Sound
 pub mod Pictures
 pub mod Bare
 pub mod Unseen
+pub mod Damage
+pub mod Boxes
+pub mod Simulate
+pub mod Covers

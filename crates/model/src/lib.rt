@@ -39,3 +39,17 @@ pub fn unseen_of_stands<S>() -> u8
 {
     0
 }
+
+// The promise follows from single steps, for a system over any type of states.
+pub fn simulation_stands<S>() -> u8
+    ensures { λ _. ⌜ Simulation S ⌝ }
+{
+    0
+}
+
+// The promise, of the system that cuts its damage by any exact cover.
+pub fn covers_stand() -> u8
+    ensures { λ _. ⌜ Every-cover ⌝ }
+{
+    0
+}
