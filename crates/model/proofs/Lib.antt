@@ -10,3 +10,7 @@ pub mod Damage
 pub mod Boxes
 pub mod Simulate
 pub mod Covers
+pub mod Places
+pub mod Cells
+pub mod Grid
+pub mod Worked

@@ -1,7 +1,10 @@
 // The desk: what a window system has to do, as definitions (specs/), and the theorems about them.
 // Each function below does nothing but carry a theorem as its contract: the crate is not proved unless the theorem is.
 ghost use Rattle.model.specs.Promise.{Keys-to, Held-by, Ordered, By-owner, By-paint, Unseen};
+ghost use Rattle.model.specs.Grid.{grid, Few-boxes};
 ghost use Rattle.model.specs.Kept.{Every-cover, Simulation, Unseen-of};
+ghost use Rattle.model.specs.System.{Exact};
+ghost use Rattle.model.specs.Worked.{Worked};
 
 // The keys go to a window that is there, and so does the pointer while it is held.
 pub fn keys_stand() -> u8
@@ -50,6 +53,21 @@ pub fn simulation_stands<S>() -> u8
 // The promise, of the system that cuts its damage by any exact cover.
 pub fn covers_stand() -> u8
     ensures { λ _. ⌜ Every-cover ⌝ }
+{
+    0
+}
+
+// The cells of the grid of all windows' edges cover the damage of every event exactly, and they are few.
+pub fn grid_stands() -> u8
+    ensures exact { λ _. ⌜ Exact grid ⌝ }
+    ensures few { λ _. ⌜ Few-boxes ⌝ }
+{
+    0
+}
+
+// Four rows of events worked out by hand come to the screens and words that they should.
+pub fn worked_rows_stand() -> u8
+    ensures { λ _. ⌜ Worked ⌝ }
 {
     0
 }
