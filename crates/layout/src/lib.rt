@@ -1,0 +1,2 @@
+// Sizes of a desk, what is refused and by which numbers.
+pub mod sizes;
