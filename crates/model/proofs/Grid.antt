@@ -22,7 +22,7 @@ use Rattle.model.proofs.Windows.{window-other, order-window, hands-window}
 use Rattle.model.proofs.Fronts.{front-in, over}
 use Rattle.model.proofs.Places.{from-left, left-of, right-of, from-le, from-lt}
 use Rattle.model.proofs.Cells.{Agree, Upto, grid-count, cells-length, cells-solid}
-use Rattle.model.proofs.Sound.{sound}
+use Rattle.model.proofs.Sound.{sound-at}
 
 agree-both : (xs ys : List ℕ) (u v : ℕ) → Agree (xs ++ ys) u v → Agree xs u v × Agree ys u v
 agree-both [] ys u v t = (tt, t)
@@ -298,4 +298,4 @@ pub few-boxes : Few-boxes
 unfolding Few-boxes grid
 few-boxes z es e =
     let d = run z (empty z) es in
-    subst (λ (w : ℕ). length (grid z d e) ≤ (2 * w + 5) * (2 * w + 5)) (sound z es .len) (grid-length z d (after z d e .0) (pred (subject e)) (painted-box e) (damage z d e))
+    subst (λ (w : ℕ). length (grid z d e) ≤ (2 * w + 5) * (2 * w + 5)) (sound-at z es .len) (grid-length z d (after z d e .0) (pred (subject e)) (painted-box e) (damage z d e))

@@ -3,8 +3,16 @@
 ghost use Rattle.model.specs.Promise.{Keys-to, Held-by, Ordered, By-owner, By-paint, Unseen};
 ghost use Rattle.model.specs.Grid.{grid, Few-boxes};
 ghost use Rattle.model.specs.Kept.{Every-cover, Simulation, Unseen-of};
+ghost use Rattle.model.specs.Sound.{Stays-sound};
 ghost use Rattle.model.specs.System.{Exact};
 ghost use Rattle.model.specs.Worked.{Worked};
+
+// Every desk that events lead to is sound.
+pub fn soundness_stands() -> u8
+    ensures { λ _. ⌜ Stays-sound ⌝ }
+{
+    0
+}
 
 // The keys go to a window that is there, and so does the pointer while it is held.
 pub fn keys_stand() -> u8
