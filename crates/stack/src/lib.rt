@@ -1,0 +1,3 @@
+// The windows of the desk by number, and the stacking order: their numbers from the back to the front.
+pub mod state;
+pub mod table;
