@@ -1,3 +1,5 @@
 pub mod Slots
 pub mod Frees
 pub mod Areas
+pub mod Orders
+mod Kept

@@ -17,10 +17,13 @@ use Rattle.model.specs.Desk as desk
 use Rattle.model.specs.Desk.{Desk, nothing, window, mine}
 use Rattle.stack.specs.declared.state.Window.{Window}
 use Rattle.stack.specs.declared.state.Stack.{Stack}
-use Rattle.stack.specs.View.{view, slots-of, windows-of}
+use Rattle.stack.specs.View.{view, slots-of, windows-of, order-of}
 
 pub length-slots : (s : Stack) → length (slots-of s) ≡ s .limit
 length-slots s = length-take-le (s .limit) (s .windows) (omega arith)
+
+pub order-few : (s : Stack) → length (order-of s) ≤ 255
+order-few s = simp length-take (omega arith)
 
 pub slot-in : {X : Type 0} (limit n : ℕ) (ws : List X) (d : X) → n < limit → getD ws n d ≡ getD (take limit ws) n d
 slot-in limit n ws d h = sym (getD-take limit ws n d h)
