@@ -2,4 +2,5 @@ pub mod Slots
 pub mod Frees
 pub mod Areas
 pub mod Orders
+pub mod Fronts
 mod Kept

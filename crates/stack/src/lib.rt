@@ -2,3 +2,4 @@
 pub mod state;
 pub mod table;
 pub mod stacking;
+pub mod front;
