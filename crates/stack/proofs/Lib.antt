@@ -4,3 +4,5 @@ pub mod Areas
 pub mod Orders
 pub mod Fronts
 mod Kept
+mod Mapped
+mod Changed

@@ -1,8 +1,9 @@
 -- What the state means: windows and an order of the desk. p is what the lent pictures hold.
-use mathlib.Core.Bool.{true, _&&_}
+use mathlib.Core.Bool.{Bool, true, _&&_}
 use mathlib.Core.List.{List, map}
-use Prim.Native.Nat.{ℕ, suc, _+_, _*_}
+use Prim.Native.Nat.{ℕ, suc, _+_, _-_, _*_}
 use lib.Dec.{ltb}
+use lib.IntN.{ℤ}
 use lib.ListN.{take, getD}
 use Rattle.std.specs.declared.option.Option.{Option}
 use Rattle.std.specs.declared.option.Option.the-variants.{Some, None}
@@ -39,3 +40,27 @@ numbered (Some n) = suc n
 -- the dots that a window's picture takes
 abbrev pub dots-used : desk.Window → ℕ
 dots-used w = pick (w .there) (w .wide * w .high) 0
+
+-- what a move and a show make of a window
+abbrev pub placed : desk.Window → ℕ → ℤ → ℤ → desk.Window
+placed w c x y = record { there = true; owner = c; shown = w .shown; x = x; y = y; wide = w .wide; high = w .high; dots = w .dots }
+
+abbrev pub shown-as : desk.Window → ℕ → Bool → desk.Window
+shown-as w c b = record { there = true; owner = c; shown = b; x = w .x; y = w .y; wide = w .wide; high = w .high; dots = w .dots }
+
+-- the same of a window of the state
+abbrev pub put-at : ℤ → ℤ → Option Window → Option Window
+put-at x y None = None
+put-at x y (Some w) = Some (record { owner = w .owner; shown = w .shown; x = x; y = y; wide = w .wide; high = w .high; at = w .at })
+
+abbrev pub put-on : Bool → Option Window → Option Window
+put-on b None = None
+put-on b (Some w) = Some (record { owner = w .owner; shown = b; x = w .x; y = w .y; wide = w .wide; high = w .high; at = w .at })
+
+-- where a picture begins, as those that begin past a place move down by some dots
+abbrev pub lower : ℕ → ℕ → ℕ → ℕ
+lower past by at = pick (ltb past at) (at - by) at
+
+abbrev pub lowered : ℕ → ℕ → Option Window → Option Window
+lowered past by None = None
+lowered past by (Some w) = Some (record { owner = w .owner; shown = w .shown; x = w .x; y = w .y; wide = w .wide; high = w .high; at = lower past by (w .at) })

@@ -3,3 +3,4 @@ pub mod state;
 pub mod table;
 pub mod stacking;
 pub mod front;
+pub mod changes;

@@ -44,7 +44,7 @@ impl Stack {
     }
 
     // The window of the place n in the table, where there is one.
-    fn slot(&self, n: usize) -> Option<Window>
+    pub fn slot(&self, n: usize) -> Option<Window>
         ensures { λ r. ⌜ r ≡ getD (slots-of (now (self .entry))) n None ⌝ }
     {
         if n < self.limit { self.windows[n] } else { None }
