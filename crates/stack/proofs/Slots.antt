@@ -12,7 +12,7 @@ use Rattle.std.specs.Options.{isSome}
 use Rattle.std.specs.declared.option.Option.{Option}
 use Rattle.std.specs.declared.option.Option.the-variants.{Some, None}
 use Rattle.std.proofs.shelf.Lists.{length-take, length-take-le, length-map, getD-take, getD-past, getD-map, take-replicate, set-past, map-set}
-use Rattle.std.proofs.shelf.Tests.{cases-lt, false≢true}
+use Rattle.std.proofs.shelf.Tests.{cases-lt, false≢true, true≢false}
 use Rattle.model.specs.Desk as desk
 use Rattle.model.specs.Desk.{Desk, nothing, window, mine}
 use Rattle.stack.specs.declared.state.Window.{Window}
@@ -58,6 +58,13 @@ slot-low s n w e =
       inl h ↦ h
     | inr h ↦ let z : _≡_ {A = Option Window} None (Some w) = slot-past (s .limit) n (s .windows) None h ∙ e in absurd (false≢true (ap isSome z))
     ]
+
+none-is : {X : Type 0} (o : Option X) → isSome o ≡ false → o ≡ None
+none-is None e = refl
+none-is (Some w) e = absurd (true≢false e)
+
+pub slot-none : (s : Stack) (n : ℕ) (o : Option Window) → o ≡ getD (slots-of s) n None → isSome o ≡ false → getD (slots-of s) n None ≡ None
+slot-none s n o e h = sym e ∙ none-is o h
 
 -- the window n of a desk
 pub window-at : (s : Stack) (d : Desk) (p : List ℕ) (n : ℕ) → d .windows ≡ windows-of s p → window d n ≡ view p (getD (slots-of s) n None)

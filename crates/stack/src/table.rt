@@ -15,7 +15,7 @@ impl Window {
     // How many dots its picture has.
     pub fn dots(&self) -> u64
         ensures value { λ r. ⌜ r ≡ now (self .entry) .wide * now (self .entry) .high ⌝ }
-        ensures small { λ r. ⌜ r ≤ 4294836225 ⌝ }
+        ensures small { λ r. ⌜ r ≤ 65535 * 65535 ⌝ }
     {
         self.wide as u64 * self.high as u64
     }
@@ -24,7 +24,7 @@ impl Window {
 // How many dots the picture of a window has, where there is one.
 fn dots_in(slot: Option<Window>) -> u64
     ensures value { λ r. ⌜ ((p : List ℕ) → r ≡ dots-used (view p slot)) ⌝ }
-    ensures small { λ r. ⌜ r ≤ 4294836225 ⌝ }
+    ensures small { λ r. ⌜ r ≤ 65535 * 65535 ⌝ }
 {
     match slot {
         Some(w) => w.dots(),
@@ -43,7 +43,7 @@ impl Stack {
         Stack { limit: limit as usize, windows: [None; 255], order: [0; 255], count: 0 }
     }
 
-    // The window of the place n in the table, where there is one.
+    // The window n, where it is there, for counters over the table.
     pub fn slot(&self, n: usize) -> Option<Window>
         ensures { λ r. ⌜ r ≡ getD (slots-of (now (self .entry))) n None ⌝ }
     {
@@ -82,7 +82,9 @@ impl Stack {
 
     // The lowest number without a window, or the limit.
     pub fn lowest_free(&self) -> u8
-        ensures { λ r. ⌜ ((p : List ℕ) → r ≡ free (windows-of (now (self .entry)) p)) ⌝ }
+        ensures value { λ r. ⌜ ((p : List ℕ) → r ≡ free (windows-of (now (self .entry)) p)) ⌝ }
+        ensures none { λ r. ⌜ getD (slots-of (now (self .entry))) r None ≡ None ⌝ }
+        ensures most { λ r. ⌜ r ≤ now (self .entry) .limit ⌝ }
     {
         for n in 0..self.limit {
             if self.slot(n).is_none() {
@@ -92,10 +94,10 @@ impl Stack {
         self.limit as u8
     }
 
-    // The dots of all pictures; 65,535 by 65,535 of a window are the most.
+    // The dots of all pictures. 255 windows of 65,535 by 65,535 dots are the most that there can be, so the sum fits.
     pub fn area_used(&self) -> u64
         ensures value { λ r. ⌜ ((p : List ℕ) → r ≡ area (windows-of (now (self .entry)) p)) ⌝ }
-        ensures small { λ r. ⌜ r ≤ 4294836225 * 255 ⌝ }
+        ensures small { λ r. ⌜ r ≤ 65535 * 65535 * 255 ⌝ }
     {
         let mut sum = 0;
         for n in 0..self.limit {

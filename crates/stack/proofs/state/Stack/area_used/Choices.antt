@@ -8,4 +8,4 @@ use Rattle.stack.proofs.state.Stack.area_used.Given as given
 
 abbrev pub Inv-loop-n : given.InvT-loop-n
 Inv-loop-n l =
-    ((p : List ℕ) → l .sum + area (map (view p) (drop (l .n) (slots-of (l .self)))) ≡ area (windows-of (l .self) p)) × (l .sum ≤ 4294836225 * l .n)
+    ((p : List ℕ) → l .sum + area (map (view p) (drop (l .n) (slots-of (l .self)))) ≡ area (windows-of (l .self) p)) × (l .sum ≤ 65535 * 65535 * l .n)
