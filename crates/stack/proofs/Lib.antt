@@ -1,0 +1,10 @@
+pub mod Slots
+pub mod Frees
+pub mod Areas
+pub mod Orders
+pub mod Rooms
+pub mod Fronts
+pub mod Pictures
+mod Kept
+mod Mapped
+mod Changed
