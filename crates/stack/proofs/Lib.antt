@@ -6,5 +6,5 @@ pub mod Rooms
 pub mod Fronts
 pub mod Pictures
 mod Kept
-mod Mapped
+mod Packing
 mod Changed

@@ -13,7 +13,7 @@ use Rattle.model.specs.Basics.{pick}
 use Rattle.model.specs.Desk as desk
 use Rattle.model.specs.Desk.{painted}
 use Rattle.stack.specs.declared.state.Window.{Window}
-use Rattle.stack.specs.View.{view, dots-of, lower, lowered}
+use Rattle.stack.specs.View.{view, dots-of, begun}
 
 with-dots : Window → (ℕ → ℕ → ℕ) → desk.Window
 with-dots w f =
@@ -53,10 +53,10 @@ unfolding with-dots
 view-same p q w e =
     ap (with-dots w) (fun-ext (λ i. fun-ext (λ j. dots-by (w .wide) (w .high) i j _ (dots-of p w i j) (λ h k. rw (dots-in p w i j h k) (e i j h k)) (dots-out p w i j))))
 
--- the picture moved down in memory
-pub view-lowered : (p q : List ℕ) (past by : ℕ) (w : Window) →
-    ((i j : ℕ) → i < w .wide → j < w .high → getD q (lower past by (w .at) + j * w .wide + i) 0 ≡ getD p (w .at + j * w .wide + i) 0) →
-    view q (lowered past by (Some w)) ≡ view p (Some w)
+-- the picture lies elsewhere
+pub view-begun : (p q : List ℕ) (at : ℕ) (w : Window) →
+    ((i j : ℕ) → i < w .wide → j < w .high → getD q (at + j * w .wide + i) 0 ≡ getD p (w .at + j * w .wide + i) 0) →
+    view q (begun at (Some w)) ≡ view p (Some w)
 unfolding with-dots
-view-lowered p q past by w e =
+view-begun p q at w e =
     ap (with-dots w) (fun-ext (λ i. fun-ext (λ j. dots-by (w .wide) (w .high) i j _ (dots-of p w i j) (λ h k. rw (dots-in p w i j h k) (e i j h k)) (dots-out p w i j))))

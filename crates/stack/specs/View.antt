@@ -1,7 +1,7 @@
 -- What the state means: windows and an order of the desk. p is what the lent pictures hold.
 use mathlib.Core.Bool.{Bool, true, _&&_}
-use mathlib.Core.List.{List, map}
-use Prim.Native.Nat.{ℕ, suc, _+_, _-_, _*_}
+use mathlib.Core.List.{List, [], _∷_, map}
+use Prim.Native.Nat.{ℕ, suc, _+_, _*_}
 use lib.Dec.{ltb}
 use lib.IntN.{ℤ}
 use lib.ListN.{take, getD}
@@ -57,10 +57,17 @@ abbrev pub put-on : Bool → Option Window → Option Window
 put-on b None = None
 put-on b (Some w) = Some (record { owner = w .owner; shown = b; x = w .x; y = w .y; wide = w .wide; high = w .high; at = w .at })
 
--- where a picture begins, as those that begin past a place move down by some dots
-abbrev pub lower : ℕ → ℕ → ℕ → ℕ
-lower past by at = pick (ltb past at) (at - by) at
+-- the dots of a window's picture, in the state
+abbrev pub size-of : Option Window → ℕ
+size-of None = 0
+size-of (Some w) = w .wide * w .high
 
-abbrev pub lowered : ℕ → ℕ → Option Window → Option Window
-lowered past by None = None
-lowered past by (Some w) = Some (record { owner = w .owner; shown = w .shown; x = w .x; y = w .y; wide = w .wide; high = w .high; at = lower past by (w .at) })
+-- a window whose picture begins at a place
+abbrev pub begun : ℕ → Option Window → Option Window
+begun at None = None
+begun at (Some w) = Some (record { owner = w .owner; shown = w .shown; x = w .x; y = w .y; wide = w .wide; high = w .high; at = at })
+
+-- windows whose pictures lie one after another from a place on, in the order of their numbers and without a gap
+abbrev pub packed : ℕ → List (Option Window) → List (Option Window)
+packed at [] = []
+packed at (o ∷ os) = begun at o ∷ packed (at + size-of o) os

@@ -1,31 +1,27 @@
 // Changes of windows that are there.
 ghost use mathlib.Core.Path.{_≡_};
-ghost use mathlib.Core.List.{List, map};
-ghost use Prim.Native.Nat.{ℕ};
+ghost use mathlib.Core.List.{List};
+ghost use Prim.Native.Nat.{ℕ, _+_, _^_, _<_, _≤_};
 ghost use lib.ListN.{getD, set};
 ghost use Rattle.std.specs.declared.option.Option.the-variants.{None};
 ghost use Rattle.model.specs.Basics.{pick};
 ghost use Rattle.model.specs.Desk.{Desk, mine};
 ghost use Rattle.model.specs.Desk.{window as window-of};
-ghost use Rattle.stack.specs.View.{slots-of, windows-of, order-of, placed, shown-as, put-at, put-on, lower};
-ghost use Rattle.stack.specs.View.{lowered as lowered-by};
+ghost use Rattle.stack.specs.View.{slots-of, windows-of, order-of, placed, shown-as, put-at, put-on, packed, size-of};
+ghost use Rattle.stack.specs.View.{begun as begun-at};
 use crate::state::Stack;
 use crate::state::Window;
 
-// Where a picture that begins at `at` begins, once those that begin past a place are moved down.
-fn lower_start(at: u32, past: u32, by: u32) -> u32
-    ensures { λ r. ⌜ r ≡ lower past by at ⌝ }
-{
-    if past < at { at.saturating_sub(by) } else { at }
-}
-
-fn lowered(slot: Option<Window>, past: u32, by: u32) -> Option<Window>
-    ensures { λ r. ⌜ r ≡ lowered-by past by slot ⌝ }
+// The window with its picture beginning at a place, and the place behind its picture.
+fn begun(slot: Option<Window>, at: usize) -> (Option<Window>, usize)
+    requires { ⌜ at + 4294836225 < 2 ^ 64 ⌝ }
+    ensures window { λ r. ⌜ r .0 ≡ begun-at at slot ⌝ }
+    ensures behind { λ r. ⌜ r .1 ≡ at + size-of slot ⌝ ∗ ⌜ size-of slot ≤ 4294836225 ⌝ }
 {
     let Some(w) = slot else {
-        return None;
+        return (None, at);
     };
-    Some(Window { at: lower_start(w.at, past, by), ..w })
+    (Some(Window { at, ..w }), at + w.dots() as usize)
 }
 
 impl Stack {
@@ -59,15 +55,18 @@ impl Stack {
         true
     }
 
-    // Every picture that begins past a place begins `by` dots lower from now on, so that no gap is left where another went.
-    pub fn close_gap(&mut self, past: u32, by: u32)
-        ensures slots { λ _. ⌜ slots-of (now (self .exit)) ≡ map (lowered-by past by) (slots-of (now (self .entry))) ⌝ }
+    // The pictures lie one after another from now on, in the order of the windows' numbers and without a gap.
+    pub fn pack(&mut self)
+        ensures slots { λ _. ⌜ slots-of (now (self .exit)) ≡ packed 0 (slots-of (now (self .entry))) ⌝ }
         ensures order { λ _. ⌜ order-of (now (self .exit)) ≡ order-of (now (self .entry)) ⌝ }
         ensures limit { λ _. ⌜ now (self .exit) .limit ≡ now (self .entry) .limit ⌝ }
     {
+        let mut at = 0;
         for n in 0..self.limit {
             let old = self.slot(n);
-            self.windows[n] = lowered(old, past, by);
+            let (new, behind) = begun(old, at);
+            self.windows[n] = new;
+            at = behind;
         }
     }
 }

@@ -13,7 +13,7 @@ pub struct Window {
     pub y: i16,
     pub wide: u16,
     pub high: u16,
-    pub at: u32,
+    pub at: usize,
 }
 
 // The windows by number, of which the first `limit` can be made, and the order: its first `count` elements, from the back to the front.
