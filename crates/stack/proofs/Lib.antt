@@ -6,5 +6,6 @@ pub mod Rooms
 pub mod Fronts
 pub mod Pictures
 mod Kept
-mod Packing
+pub mod Packing
 mod Changed
+pub mod Packed
