@@ -1,2 +1,3 @@
-// Sizes of a desk, what is refused and by which numbers.
+// Sizes of a desk, what is refused and by which numbers, and the state of a desk.
 pub mod sizes;
+pub mod state;
