@@ -1,0 +1,91 @@
+-- What callers conclude: when a box fits, and what became of the pictures that were painted, left alone or moved.
+use mathlib.Core.Path.{_≡_, refl, sym, ap, _∙_, fun-ext}
+use mathlib.Core.Bool.{Bool, true, false, _&&_}
+use mathlib.Core.Logic.{_⊎_, inl, inr}
+use mathlib.Core.List.{List}
+use Prim.Native.Nat.{ℕ, _+_, _-_, _*_, _≤_, _<_}
+use native.Mathlib.Omega.{arith}
+use lib.Dec.{leb, ltb}
+use lib.ListN.{length, getD}
+use Rattle.std.proofs.shelf.Bits.{mul-add-lt}
+use Rattle.std.proofs.shelf.Tests.{and-parts, and-from, leb-true, le-leb, cases-bool, ltb-true}
+use Rattle.model.specs.Basics.{pick, in-run}
+use Rattle.pixels.specs.declared.Picture.{Picture}
+use Rattle.pixels.specs.declared.Area.{Area}
+use Rattle.pixels.specs.Runs.{Changed, run-fits}
+use Rattle.pixels.specs.Pictures.{place, dots-of, fits, Painted}
+use Rattle.pixels.proofs.Runs.{in-run-yes, in-run-apart}
+
+-- a box of a picture of a slice fits
+pub fits-yes : (p : Picture) (a : Area) (len : ℕ) → p .at + p .wide * p .high ≤ len → a .x + a .wide ≤ p .wide → a .y + a .high ≤ p .high → fits p a len ≡ true
+fits-yes p a len h u v = and-from _ _ (le-leb _ _ h) (and-from _ _ (le-leb _ _ u) (le-leb _ _ v))
+
+pub fits-parts : (p : Picture) (a : Area) (len : ℕ) → fits p a len ≡ true →
+    (p .at + p .wide * p .high ≤ len) × (a .x + a .wide ≤ p .wide) × (a .y + a .high ≤ p .high)
+fits-parts p a len e =
+    let h = and-parts (leb (p .at + p .wide * p .high) len) (leb (a .x + a .wide) (p .wide) && leb (a .y + a .high) (p .high)) e in
+    let k = and-parts (leb (a .x + a .wide) (p .wide)) (leb (a .y + a .high) (p .high)) (h .1) in
+    (leb-true _ _ (h .0), leb-true _ _ (k .0), leb-true _ _ (k .1))
+
+pub run-fits-yes : (lo n len : ℕ) → lo + n ≤ len → run-fits lo n len ≡ true
+run-fits-yes lo n len h = le-leb (lo + n) len h
+
+-- two slices give a picture the same dots where they agree on every place of it
+pub same-dots : (p q : List ℕ) (at to wide high : ℕ) →
+    ((k : ℕ) → k < wide * high → getD q (to + k) 0 ≡ getD p (at + k) 0) → dots-of q to wide high ≡ dots-of p at wide high
+unfolding dots-of
+same-dots p q at to wide high h = fun-ext (λ i. fun-ext (λ j. at-dot i j))
+  where
+    at-dot : (i j : ℕ) → pick (ltb i wide && ltb j high) (getD q (place to wide i j) 0) 0 ≡ pick (ltb i wide && ltb j high) (getD p (place at wide i j) 0) 0
+    at-dot i j =
+        elim (cases-bool (ltb i wide && ltb j high)) [
+          inl b ↦
+            let c = and-parts (ltb i wide) (ltb j high) b in
+            let m = mul-add-lt j wide i high (ltb-true j high (c .1)) (ltb-true i wide (c .0)) in
+            let e : to + (j * wide + i) ≡ place to wide i j = omega arith in
+            let d : at + (j * wide + i) ≡ place at wide i j = omega arith in
+            rw b (rw (e, d) at (h (j * wide + i) m))
+        | inr b ↦ rw b
+        ]
+
+-- the dots of a painted picture, as one function
+pub painted-dots : (p : Picture) (f : ℕ → ℕ → ℕ) (old new : List ℕ) → Painted p f old new → dots-of new (p .at) (p .wide) (p .high) ≡ f
+painted-dots p f old new h = fun-ext (λ i. fun-ext (λ j. h .dots i j))
+
+-- a picture that lies apart from the one that was painted has the dots that it had
+pub apart-same : (p : Picture) (f : ℕ → ℕ → ℕ) (old new : List ℕ) (at wide high : ℕ) → Painted p f old new →
+    (at + wide * high ≤ p .at) ⊎ (p .at + p .wide * p .high ≤ at) → dots-of new at wide high ≡ dots-of old at wide high
+apart-same p f old new at wide high h o =
+    same-dots old new at at wide high (λ k l. h .others (at + k) (elim o [ inl a ↦ inl (omega arith) | inr a ↦ inr (omega arith) ]))
+
+-- a picture that lies apart from a run that was written has the dots that it had
+pub changed-apart : (lo n : ℕ) (f : ℕ → ℕ) (old new : List ℕ) (at wide high : ℕ) → Changed lo n f old new →
+    (at + wide * high ≤ lo) ⊎ (lo + n ≤ at) → dots-of new at wide high ≡ dots-of old at wide high
+changed-apart lo n f old new at wide high h o =
+    same-dots old new at at wide high
+      (λ k l. h .places (at + k) ∙ rw (in-run-apart lo n (at + k) lo (lo + n) (omega arith) (omega arith) (elim o [ inl a ↦ inl (omega arith) | inr a ↦ inr (omega arith) ])))
+
+-- a picture in a run that was made 0 is 0 at every dot
+pub cleared-dots : (lo n : ℕ) (old new : List ℕ) (at wide high : ℕ) → Changed lo n (λ _. 0) old new →
+    lo ≤ at → at + wide * high ≤ lo + n → dots-of new at wide high ≡ (λ i j. 0)
+unfolding dots-of
+cleared-dots lo n old new at wide high h a b = fun-ext (λ i. fun-ext (λ j. at-dot i j))
+  where
+    at-dot : (i j : ℕ) → pick (ltb i wide && ltb j high) (getD new (place at wide i j) 0) 0 ≡ 0
+    at-dot i j =
+        elim (cases-bool (ltb i wide && ltb j high)) [
+          inl t ↦
+            let c = and-parts (ltb i wide) (ltb j high) t in
+            let m = mul-add-lt j wide i high (ltb-true j high (c .1)) (ltb-true i wide (c .0)) in
+            rw t (h .places (place at wide i j) ∙ rw (in-run-yes lo n (place at wide i j) (omega arith) (omega arith)))
+        | inr t ↦ rw t
+        ]
+
+-- a picture in a run that was moved has its dots at its new place
+pub moved-dots : (from to n : ℕ) (old new : List ℕ) (at wide high : ℕ) → Changed to n (λ k. getD old (from + (k - to)) 0) old new →
+    from ≤ at → at + wide * high ≤ from + n → dots-of new (to + (at - from)) wide high ≡ dots-of old at wide high
+moved-dots from to n old new at wide high h a b =
+    same-dots old new at (to + (at - from)) wide high
+      (λ k l.
+        let e : from + (((to + (at - from)) + k) - to) ≡ at + k = omega arith in
+        h .places ((to + (at - from)) + k) ∙ rw (in-run-yes to n ((to + (at - from)) + k) (omega arith) (omega arith), e))

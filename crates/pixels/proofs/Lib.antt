@@ -1,0 +1,3 @@
+mod Runs
+mod Rows
+pub mod Laws

@@ -1,0 +1,48 @@
+-- Pictures that lie in one slice of dots, each row by row.
+use mathlib.Core.Path.{_≡_}
+use mathlib.Core.Bool.{Bool, _&&_}
+use mathlib.Core.Logic.{_⊎_}
+use mathlib.Core.List.{List}
+use Prim.Native.Nat.{ℕ, _+_, _-_, _*_, _≤_, _<_}
+use lib.Dec.{leb, ltb}
+use lib.ListN.{length, getD}
+use Rattle.model.specs.Basics.{pick, in-box}
+use Rattle.pixels.specs.declared.Picture.{Picture}
+use Rattle.pixels.specs.declared.Area.{Area}
+
+-- where the dot i, j lies of a picture that starts at `at` and has rows of `wide` dots
+abbrev pub place : ℕ → ℕ → ℕ → ℕ → ℕ
+place at wide i j = at + j * wide + i
+
+-- the dots of the picture that starts at `at`, of `high` rows of `wide` dots; outside of the picture they are 0
+unfoldable pub dots-of : List ℕ → ℕ → ℕ → ℕ → ℕ → ℕ → ℕ
+dots-of p at wide high i j = pick (ltb i wide && ltb j high) (getD p (place at wide i j) 0) 0
+
+-- the picture's dots, all of them, are among the first `len` of the slice
+abbrev pub lies-in : Picture → ℕ → Bool
+lies-in p len = leb (p .at + p .wide * p .high) len
+
+-- the area is part of the picture
+abbrev pub has-area : Picture → Area → Bool
+has-area p a = leb (a .x + a .wide) (p .wide) && leb (a .y + a .high) (p .high)
+
+abbrev pub fits : Picture → Area → ℕ → Bool
+fits p a len = lies-in p len && has-area p a
+
+-- what paint makes of dots d, as the desk has it: a box in one colour,
+abbrev pub filled : ℕ → ℕ → ℕ → ℕ → ℕ → (ℕ → ℕ → ℕ) → ℕ → ℕ → ℕ
+filled x y w h colour d i j = pick (in-box x y w h i j) colour (d i j)
+
+-- a row of colours,
+abbrev pub put-in : ℕ → ℕ → List ℕ → (ℕ → ℕ → ℕ) → ℕ → ℕ → ℕ
+put-in x y colours d i j = pick (in-box x y (length colours) 1 i j) (getD colours (i - x) 0) (d i j)
+
+-- and the box at x, y copied to a, b
+abbrev pub copied : ℕ → ℕ → ℕ → ℕ → ℕ → ℕ → (ℕ → ℕ → ℕ) → ℕ → ℕ → ℕ
+copied x y w h a b d i j = pick (in-box a b w h i j) (d (x + (i - a)) (y + (j - b))) (d i j)
+
+-- the picture's dots have become f, and all that lies outside of the picture is as it was
+pub record Painted (p : Picture) (f : ℕ → ℕ → ℕ) (old new : List ℕ) : Type 0 where
+  pub dots : (i j : ℕ) → dots-of new (p .at) (p .wide) (p .high) i j ≡ f i j
+  pub others : (k : ℕ) → (k < p .at) ⊎ (p .at + p .wide * p .high ≤ k) → getD new k 0 ≡ getD old k 0
+  pub len : length new ≡ length old

@@ -1,0 +1,122 @@
+// Pictures, all of them in one lent slice of dots: painting in one, making it blank, moving it in the slice, and reading it.
+// A request that does not fit is answered with false, and changes nothing.
+ghost use mathlib.Core.Path.{_≡_};
+ghost use Prim.Native.Nat.{ℕ, _+_, _-_, _*_, _^_, _<_, _≤_};
+ghost use lib.ListN.{length, getD};
+ghost use mathlib.Core.Bool.{true, false};
+ghost use Rattle.pixels.specs.Runs.{Changed, run-fits};
+ghost use Rattle.pixels.specs.Pictures.{place, dots-of, lies-in, has-area, fits, Painted, filled};
+
+// A picture: where its first dot lies in the slice, and how many dots it has across and down. Its rows follow one another with no gap.
+#[derive(Clone, Copy)]
+pub struct Picture {
+    pub at: usize,
+    pub wide: usize,
+    pub high: usize,
+}
+
+// A box of dots in a picture: its upper left dot, and how many dots it has across and down.
+#[derive(Clone, Copy)]
+pub struct Area {
+    pub x: usize,
+    pub y: usize,
+    pub wide: usize,
+    pub high: usize,
+}
+
+impl Picture {
+    // Whether the whole picture lies in a slice of `len` dots.
+    pub fn lies_in(self, len: usize) -> bool
+        ensures { λ r. ⌜ r ≡ lies-in self len ⌝ }
+    {
+        let Some(size) = self.wide.checked_mul(self.high) else {
+            return false;
+        };
+        let Some(end) = self.at.checked_add(size) else {
+            return false;
+        };
+        end <= len
+    }
+
+    // Whether the area is part of the picture.
+    pub fn has(self, area: Area) -> bool
+        ensures { λ r. ⌜ r ≡ has-area self area ⌝ }
+    {
+        area.x <= self.wide && area.wide <= self.wide - area.x && area.y <= self.high && area.high <= self.high - area.y
+    }
+
+    // Whether the area is part of the picture, and the picture lies in a slice of `len` dots.
+    pub fn fits(self, area: Area, len: usize) -> bool
+        ensures { λ r. ⌜ r ≡ fits self area len ⌝ }
+    {
+        self.lies_in(len) && self.has(area)
+    }
+
+    // Where the dot i, j lies in the slice, and that the rest of its row lies in the picture.
+    fn place(self, i: usize, j: usize) -> usize
+        requires { ⌜ self .at + self .wide * self .high < 2 ^ 64 ⌝ ∗ ⌜ i ≤ self .wide ⌝ ∗ ⌜ j < self .high ⌝ }
+        ensures value { λ r. ⌜ r ≡ place (self .at) (self .wide) i j ⌝ }
+        ensures room { λ r. ⌜ r + (self .wide - i) ≤ self .at + self .wide * self .high ⌝ }
+    {
+        self.at + j * self.wide + i
+    }
+}
+
+// Whether a slice of `len` elements has `count` of them from `from` on.
+pub fn run_fits(from: usize, count: usize, len: usize) -> bool
+    ensures { λ r. ⌜ r ≡ run-fits from count len ⌝ }
+{
+    from <= len && count <= len - from
+}
+
+// The run of dots is the colour.
+fn fill_run(dots: &mut [u32], from: usize, count: usize, colour: u32)
+    requires { ⌜ from + count ≤ length (now dots) ⌝ }
+    ensures { λ _. ⌜ Changed from count (λ _. colour) (now (dots .entry)) (now (dots .exit)) ⌝ }
+{
+    dots[from..from + count].fill(colour);
+}
+
+// The run of dots is what another run was, also where the two overlap.
+fn copy_run(dots: &mut [u32], from: usize, to: usize, count: usize)
+    requires { ⌜ from + count ≤ length (now dots) ⌝ ∗ ⌜ to + count ≤ length (now dots) ⌝ }
+    ensures { λ _. ⌜ Changed to count (λ k. getD (now (dots .entry)) (from + (k - to)) 0) (now (dots .entry)) (now (dots .exit)) ⌝ }
+{
+    dots.copy_within(from..from + count, to);
+}
+
+// The run of dots is 0, as a new picture is.
+pub fn clear(dots: &mut [u32], from: usize, count: usize) -> bool
+    ensures answer { λ r. ⌜ r ≡ run-fits from count (length (now (dots .entry))) ⌝ }
+    ensures done { λ r. ⌜ (r ≡ true → Changed from count (λ _. 0) (now (dots .entry)) (now (dots .exit))) ⌝ }
+    ensures refused { λ r. ⌜ (r ≡ false → now (dots .exit) ≡ now (dots .entry)) ⌝ }
+{
+    if !run_fits(from, count, dots.len()) {
+        return false;
+    }
+    fill_run(dots, from, count, 0);
+    true
+}
+
+// Each row of the area is the colour.
+fn fill_rows(pictures: &mut [u32], picture: Picture, area: Area, colour: u32)
+    requires { ⌜ fits picture area (length (now pictures)) ≡ true ⌝ }
+    ensures { λ _. ⌜ Painted picture (filled (area .x) (area .y) (area .wide) (area .high) colour (dots-of (now (pictures .entry)) (picture .at) (picture .wide) (picture .high))) (now (pictures .entry)) (now (pictures .exit)) ⌝ }
+{
+    for r in 0..area.high {
+        fill_run(pictures, picture.place(area.x, area.y + r), area.wide, colour);
+    }
+}
+
+// The area of the picture is the colour.
+pub fn fill(pictures: &mut [u32], picture: Picture, area: Area, colour: u32) -> bool
+    ensures answer { λ r. ⌜ r ≡ fits picture area (length (now (pictures .entry))) ⌝ }
+    ensures done { λ r. ⌜ (r ≡ true → Painted picture (filled (area .x) (area .y) (area .wide) (area .high) colour (dots-of (now (pictures .entry)) (picture .at) (picture .wide) (picture .high))) (now (pictures .entry)) (now (pictures .exit))) ⌝ }
+    ensures refused { λ r. ⌜ (r ≡ false → now (pictures .exit) ≡ now (pictures .entry)) ⌝ }
+{
+    if !picture.fits(area, pictures.len()) {
+        return false;
+    }
+    fill_rows(pictures, picture, area, colour);
+    true
+}
