@@ -8,7 +8,7 @@ use native.Mathlib.Omega.{arith}
 use lib.Dec.{leb, ltb}
 use lib.ListN.{length, getD}
 use Rattle.std.proofs.shelf.Bits.{mul-add-lt}
-use Rattle.std.proofs.shelf.Tests.{and-parts, and-from, leb-true, le-leb, cases-bool, ltb-true}
+use Rattle.std.proofs.shelf.Tests.{and-parts, and-from, leb-true, le-leb, cases-bool, ltb-true, lt-ltb, le-ltb, and-left, and-right}
 use Rattle.model.specs.Basics.{pick, in-run}
 use Rattle.pixels.specs.declared.Picture.{Picture}
 use Rattle.pixels.specs.declared.Area.{Area}
@@ -29,6 +29,17 @@ fits-parts p a len e =
 
 pub run-fits-yes : (lo n len : ℕ) → lo + n ≤ len → run-fits lo n len ≡ true
 run-fits-yes lo n len h = le-leb (lo + n) len h
+
+-- a dot of a picture, where it lies
+pub dot-inside : (l : List ℕ) (at wide high i j : ℕ) → i < wide → j < high → dots-of l at wide high i j ≡ getD l (place at wide i j) 0
+unfolding dots-of
+dot-inside l at wide high i j h k = rw (lt-ltb i wide h, lt-ltb j high k)
+
+-- and outside
+pub dot-outside : (l : List ℕ) (at wide high i j : ℕ) → (wide ≤ i) ⊎ (high ≤ j) → dots-of l at wide high i j ≡ 0
+unfolding dots-of
+dot-outside l at wide high i j (inl h) = rw (and-left (ltb i wide) (ltb j high) (le-ltb i wide h))
+dot-outside l at wide high i j (inr h) = rw (and-right (ltb i wide) (ltb j high) (le-ltb j high h))
 
 -- two slices give a picture the same dots where they agree on every place of it
 pub same-dots : (p q : List ℕ) (at to wide high : ℕ) →

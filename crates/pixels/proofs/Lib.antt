@@ -1,3 +1,4 @@
 mod Runs
 mod Rows
+mod Copies
 pub mod Laws

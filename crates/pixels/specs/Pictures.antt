@@ -9,6 +9,7 @@ use lib.ListN.{length, getD}
 use Rattle.model.specs.Basics.{pick, in-box}
 use Rattle.pixels.specs.declared.Picture.{Picture}
 use Rattle.pixels.specs.declared.Area.{Area}
+use Rattle.pixels.specs.declared.Span.{Span}
 
 -- where the dot i, j lies of a picture that starts at `at` and has rows of `wide` dots
 abbrev pub place : ℕ → ℕ → ℕ → ℕ → ℕ
@@ -26,6 +27,15 @@ lies-in p len = leb (p .at + p .wide * p .high) len
 abbrev pub has-area : Picture → Area → Bool
 has-area p a = leb (a .x + a .wide) (p .wide) && leb (a .y + a .high) (p .high)
 
+-- a part of a row as a box
+abbrev pub area-of : Span → Area
+area-of s = record { x = s .x; y = s .y; wide = s .wide; high = 1 }
+
+-- the box of the area's size at a, b
+abbrev pub target-of : Area → ℕ → ℕ → Area
+target-of s a b = record { x = a; y = b; wide = s .wide; high = s .high }
+
+-- the area is part of a picture that lies in the slice
 abbrev pub fits : Picture → Area → ℕ → Bool
 fits p a len = lies-in p len && has-area p a
 

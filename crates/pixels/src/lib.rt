@@ -3,9 +3,11 @@
 ghost use mathlib.Core.Path.{_≡_};
 ghost use Prim.Native.Nat.{ℕ, _+_, _-_, _*_, _^_, _<_, _≤_};
 ghost use lib.ListN.{length, getD};
-ghost use mathlib.Core.Bool.{true, false};
+ghost use mathlib.Core.Bool.{true, false, _&&_};
+ghost use Rattle.std.specs.Numbers.{Checked};
 ghost use Rattle.pixels.specs.Runs.{Changed, run-fits};
-ghost use Rattle.pixels.specs.Pictures.{place, dots-of, lies-in, has-area, fits, Painted, filled};
+ghost use Rattle.pixels.specs.Pictures.{place, dots-of, lies-in, has-area, fits, area-of, target-of, Painted, filled, put-in, copied};
+ghost use Rattle.pixels.specs.Colours.{colour-at, colours-in};
 
 // A picture: where its first dot lies in the slice, and how many dots it has across and down. Its rows follow one another with no gap.
 #[derive(Clone, Copy)]
@@ -22,6 +24,32 @@ pub struct Area {
     pub y: usize,
     pub wide: usize,
     pub high: usize,
+}
+
+// A part of one row of a picture: its first dot, and how many dots it has.
+#[derive(Clone, Copy)]
+pub struct Span {
+    pub x: usize,
+    pub y: usize,
+    pub wide: usize,
+}
+
+impl Span {
+    // The span as a box of one row.
+    pub fn area(self) -> Area
+        ensures { λ r. ⌜ r ≡ area-of self ⌝ }
+    {
+        Area { x: self.x, y: self.y, wide: self.wide, high: 1 }
+    }
+}
+
+impl Area {
+    // The box of the same size at a, b.
+    pub fn moved_to(self, a: usize, b: usize) -> Area
+        ensures { λ r. ⌜ r ≡ target-of self a b ⌝ }
+    {
+        Area { x: a, y: b, ..self }
+    }
 }
 
 impl Picture {
@@ -50,6 +78,15 @@ impl Picture {
         ensures { λ r. ⌜ r ≡ fits self area len ⌝ }
     {
         self.lies_in(len) && self.has(area)
+    }
+
+    // Where the dot i, j lies in the slice, or None where that is past every slice.
+    fn find(self, i: usize, j: usize) -> Option<usize>
+        ensures { λ r. ⌜ Checked r (place (self .at) (self .wide) i j < 2 ^ 64) (place (self .at) (self .wide) i j) ⌝ }
+    {
+        let above = j.checked_mul(self.wide)?;
+        let row = self.at.checked_add(above)?;
+        row.checked_add(i)
     }
 
     // Where the dot i, j lies in the slice, and that the rest of its row lies in the picture.
@@ -119,4 +156,88 @@ pub fn fill(pictures: &mut [u32], picture: Picture, area: Area, colour: u32) -> 
     }
     fill_rows(pictures, picture, area, colour);
     true
+}
+
+// Row r of the area is copied to row r of the box of its size at a, b.
+fn copy_row(pictures: &mut [u32], picture: Picture, area: Area, a: usize, b: usize, r: usize)
+    requires source { ⌜ fits picture area (length (now pictures)) ≡ true ⌝ }
+    requires target { ⌜ a + area .wide ≤ picture .wide ⌝ ∗ ⌜ b + area .high ≤ picture .high ⌝ }
+    requires row { ⌜ r < area .high ⌝ }
+    ensures { λ _. ⌜ Changed (place (picture .at) (picture .wide) a (b + r)) (area .wide) (λ k. getD (now (pictures .entry)) (place (picture .at) (picture .wide) (area .x) (area .y + r) + (k - place (picture .at) (picture .wide) a (b + r))) 0) (now (pictures .entry)) (now (pictures .exit)) ⌝ }
+{
+    copy_run(pictures, picture.place(area.x, area.y + r), picture.place(a, b + r), area.wide);
+}
+
+// The area is copied to a, b, its first row first: right where that is not below the area, since no row is then written before it was read.
+fn copy_up(pictures: &mut [u32], picture: Picture, area: Area, a: usize, b: usize)
+    requires source { ⌜ fits picture area (length (now pictures)) ≡ true ⌝ }
+    requires target { ⌜ a + area .wide ≤ picture .wide ⌝ ∗ ⌜ b + area .high ≤ picture .high ⌝ }
+    requires order { ⌜ b ≤ area .y ⌝ }
+    ensures { λ _. ⌜ Painted picture (copied (area .x) (area .y) (area .wide) (area .high) a b (dots-of (now (pictures .entry)) (picture .at) (picture .wide) (picture .high))) (now (pictures .entry)) (now (pictures .exit)) ⌝ }
+{
+    for r in 0..area.high {
+        copy_row(pictures, picture, area, a, b, r);
+    }
+}
+
+// The same, its last row first: right where a, b is not above the area.
+fn copy_down(pictures: &mut [u32], picture: Picture, area: Area, a: usize, b: usize)
+    requires source { ⌜ fits picture area (length (now pictures)) ≡ true ⌝ }
+    requires target { ⌜ a + area .wide ≤ picture .wide ⌝ ∗ ⌜ b + area .high ≤ picture .high ⌝ }
+    requires order { ⌜ area .y ≤ b ⌝ }
+    ensures { λ _. ⌜ Painted picture (copied (area .x) (area .y) (area .wide) (area .high) a b (dots-of (now (pictures .entry)) (picture .at) (picture .wide) (picture .high))) (now (pictures .entry)) (now (pictures .exit)) ⌝ }
+{
+    for r in (0..area.high).rev() {
+        copy_row(pictures, picture, area, a, b, r);
+    }
+}
+
+// The box of the area's size at a, b becomes what the area was, also where the two overlap.
+pub fn copy(pictures: &mut [u32], picture: Picture, area: Area, a: usize, b: usize) -> bool
+    ensures answer { λ r. ⌜ r ≡ (fits picture area (length (now (pictures .entry))) && has-area picture (target-of area a b)) ⌝ }
+    ensures done { λ r. ⌜ (r ≡ true → Painted picture (copied (area .x) (area .y) (area .wide) (area .high) a b (dots-of (now (pictures .entry)) (picture .at) (picture .wide) (picture .high))) (now (pictures .entry)) (now (pictures .exit))) ⌝ }
+    ensures refused { λ r. ⌜ (r ≡ false → now (pictures .exit) ≡ now (pictures .entry)) ⌝ }
+{
+    if !picture.fits(area, pictures.len()) || !picture.has(area.moved_to(a, b)) {
+        return false;
+    }
+    if b <= area.y {
+        copy_up(pictures, picture, area, a, b);
+    } else {
+        copy_down(pictures, picture, area, a, b);
+    }
+    true
+}
+
+// The run of dots at `to` becomes what the run at `from` was, also where the two overlap: pictures move in the slice.
+pub fn shift(dots: &mut [u32], from: usize, to: usize, count: usize) -> bool
+    ensures answer { λ r. ⌜ r ≡ (run-fits from count (length (now (dots .entry))) && run-fits to count (length (now (dots .entry)))) ⌝ }
+    ensures done { λ r. ⌜ (r ≡ true → Changed to count (λ k. getD (now (dots .entry)) (from + (k - to)) 0) (now (dots .entry)) (now (dots .exit))) ⌝ }
+    ensures refused { λ r. ⌜ (r ≡ false → now (dots .exit) ≡ now (dots .entry)) ⌝ }
+{
+    if !run_fits(from, count, dots.len()) || !run_fits(to, count, dots.len()) {
+        return false;
+    }
+    copy_run(dots, from, to, count);
+    true
+}
+
+// The element at a place, or 0 past the end.
+fn read(dots: &[u32], k: usize) -> u32
+    ensures { λ r. ⌜ r ≡ getD (now (dots .entry)) k 0 ⌝ }
+{
+    if k < dots.len() { dots[k] } else { 0 }
+}
+
+// The dot i, j of a picture; outside of it, and where the slice has no such dot, 0.
+pub fn dot(pictures: &[u32], picture: Picture, i: usize, j: usize) -> u32
+    ensures { λ r. ⌜ r ≡ dots-of (now (pictures .entry)) (picture .at) (picture .wide) (picture .high) i j ⌝ }
+{
+    if i >= picture.wide || j >= picture.high {
+        return 0;
+    }
+    let Some(k) = picture.find(i, j) else {
+        return 0;
+    };
+    read(pictures, k)
 }

@@ -1,0 +1,49 @@
+-- A box that is copied within its picture, row by row, in either order of the rows.
+use mathlib.Core.Path.{_≡_, refl, sym, ap, _∙_}
+use mathlib.Core.Bool.{Bool, true, false, _&&_, _||_}
+use mathlib.Core.List.{List}
+use Prim.Native.Nat.{ℕ, _+_, _-_, _*_, _≤_, _<_}
+use native.Mathlib.Omega.{arith}
+use lib.Dec.{leb, ltb, eqb}
+use lib.ListN.{length, getD}
+use Rattle.std.proofs.shelf.Tests.{and-right, and-from, lt-ltb}
+use Rattle.model.specs.Basics.{pick, in-run}
+use Rattle.pixels.specs.declared.Picture.{Picture}
+use Rattle.pixels.specs.Runs.{Changed}
+use Rattle.pixels.specs.Pictures.{place, dots-of, Painted, copied}
+use Rattle.pixels.proofs.Laws.{dot-inside}
+use Rattle.pixels.proofs.Rows.{Rows, rows-more, rows-all}
+
+-- what the dot i, j of the box at a, b is to become
+abbrev pub source : ℕ → ℕ → ℕ → ℕ → ℕ → ℕ → List ℕ → ℕ → ℕ → ℕ
+source at s x y a b old i j = getD old (place at s (x + (i - a)) (y + (j - b))) 0
+
+-- row t is copied, and the row that it comes from was not written yet
+pub copied-more : (at s high x y a b w lo n lo′ n′ t : ℕ) (old new new′ : List ℕ) → x + w ≤ s → a + w ≤ s → b + t < high →
+    in-run lo n (y + t) ≡ false → ((j : ℕ) → in-run lo′ n′ j ≡ (eqb j (b + t) || in-run lo n j)) →
+    Rows at s high a w lo n (source at s x y a b old) old new →
+    Changed (place at s a (b + t)) w (λ k. getD new (place at s x (y + t) + (k - place at s a (b + t))) 0) new new′ →
+    Rows at s high a w lo′ n′ (source at s x y a b old) old new′
+copied-more at s high x y a b w lo n lo′ n′ t old new new′ u v l f g p q =
+    rows-more at s high a w lo n lo′ n′ (b + t) (source at s x y a b old) (λ k. getD new (place at s x (y + t) + (k - place at s a (b + t))) 0) old new new′ v l g p q came
+  where
+    came : (i : ℕ) → a ≤ i → i < a + w →
+        getD new (place at s x (y + t) + (place at s i (b + t) - place at s a (b + t))) 0 ≡ getD old (place at s (x + (i - a)) (y + ((b + t) - b))) 0
+    came i h k =
+        let e : place at s x (y + t) + (place at s i (b + t) - place at s a (b + t)) ≡ place at s (x + (i - a)) (y + t) = omega arith in
+        let z : (b + t) - b ≡ t = omega arith in
+        rw (e, z) (p .dots (x + (i - a)) (y + t) (omega arith) ∙ rw (and-right (in-run a w (x + (i - a))) (in-run lo n (y + t)) f))
+
+-- all rows are copied
+pub copied-all : (p : Picture) (x y a b w h : ℕ) (old new : List ℕ) → x + w ≤ p .wide → y + h ≤ p .high → a + w ≤ p .wide → b + h ≤ p .high →
+    Rows (p .at) (p .wide) (p .high) a w b h (source (p .at) (p .wide) x y a b old) old new →
+    Painted p (copied x y w h a b (dots-of old (p .at) (p .wide) (p .high))) old new
+copied-all p x y a b w h old new u u′ v v′ r =
+    record {
+      dots = rows-all (p .at) (p .wide) (p .high) a b w h (source (p .at) (p .wide) x y a b old) (λ i j. dots-of old (p .at) (p .wide) (p .high) (x + (i - a)) (y + (j - b))) old new v v′ r inner;
+      others = r .others;
+      len = r .len }
+  where
+    inner : (i j : ℕ) → a ≤ i → i < a + w → b ≤ j → j < b + h →
+        source (p .at) (p .wide) x y a b old i j ≡ dots-of old (p .at) (p .wide) (p .high) (x + (i - a)) (y + (j - b))
+    inner i j c d e f = sym (dot-inside old (p .at) (p .wide) (p .high) (x + (i - a)) (y + (j - b)) (omega arith) (omega arith))
