@@ -7,6 +7,7 @@ use Prim.Native.Nat.{ℕ, _+_, _-_, _*_, _≤_, _<_}
 use native.Mathlib.Omega.{arith}
 use lib.Dec.{leb, ltb}
 use lib.ListN.{length, getD}
+use Rattle.std.proofs.shelf.Counted.{length-map-counting, getD-map-counting}
 use Rattle.std.proofs.shelf.Bits.{mul-add-lt}
 use Rattle.std.proofs.shelf.Tests.{and-parts, and-from, leb-true, le-leb, cases-bool, ltb-true, lt-ltb, le-ltb, and-left, and-right}
 use Rattle.model.specs.Basics.{pick, in-run}
@@ -14,6 +15,7 @@ use Rattle.pixels.specs.declared.Picture.{Picture}
 use Rattle.pixels.specs.declared.Area.{Area}
 use Rattle.pixels.specs.Runs.{Changed, run-fits}
 use Rattle.pixels.specs.Pictures.{place, dots-of, fits, Painted}
+use Rattle.pixels.specs.Colours.{colour-at, colours-in}
 use Rattle.pixels.proofs.Runs.{in-run-yes, in-run-apart}
 
 -- a box of a picture of a slice fits
@@ -100,3 +102,11 @@ moved-dots from to n old new at wide high h a b =
       (λ k l.
         let e : from + (((to + (at - from)) + k) - to) ≡ at + k = omega arith in
         h .places ((to + (at - from)) + k) ∙ rw (in-run-yes to n ((to + (at - from)) + k) (omega arith) (omega arith), e))
+
+pub colours-length : (bytes : List ℕ) (from count : ℕ) → length (colours-in bytes from count) ≡ count
+unfolding colours-in
+colours-length bytes from count = length-map-counting (λ k. colour-at bytes (from + 4 * k)) 0 count
+
+pub colours-place : (bytes : List ℕ) (from count k : ℕ) → k < count → getD (colours-in bytes from count) k 0 ≡ colour-at bytes (from + 4 * k)
+unfolding colours-in
+colours-place bytes from count k h = getD-map-counting (λ n. colour-at bytes (from + 4 * n)) 0 count k k 0 h (omega arith)

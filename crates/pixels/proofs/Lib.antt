@@ -1,4 +1,5 @@
 mod Runs
 mod Rows
 mod Copies
+mod Spans
 pub mod Laws

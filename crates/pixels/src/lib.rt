@@ -7,7 +7,7 @@ ghost use mathlib.Core.Bool.{true, false, _&&_};
 ghost use Rattle.std.specs.Numbers.{Checked};
 ghost use Rattle.pixels.specs.Runs.{Changed, run-fits};
 ghost use Rattle.pixels.specs.Pictures.{place, dots-of, lies-in, has-area, fits, area-of, target-of, Painted, filled, put-in, copied};
-ghost use Rattle.pixels.specs.Colours.{colour-at, colours-in};
+ghost use Rattle.pixels.specs.Colours.{colour-at, colours-in, put-fits};
 
 // A picture: where its first dot lies in the slice, and how many dots it has across and down. Its rows follow one another with no gap.
 #[derive(Clone, Copy)]
@@ -240,4 +240,78 @@ pub fn dot(pictures: &[u32], picture: Picture, i: usize, j: usize) -> u32
         return 0;
     };
     read(pictures, k)
+}
+
+// The colour in four bytes, the low one first.
+fn colour_at(call: &[u8], k: usize) -> u32
+    requires { ⌜ k + 4 ≤ length (now call) ⌝ }
+    ensures { λ r. ⌜ r ≡ colour-at (now (call .entry)) k ⌝ }
+{
+    call[k] as u32 + 256 * call[k + 1] as u32 + 65536 * call[k + 2] as u32 + 16777216 * call[k + 3] as u32
+}
+
+// The row is the colours of the call from byte `from` on.
+fn read_colours(row: &mut [u32], call: &[u8], from: usize)
+    requires { ⌜ from + 4 * length (now row) ≤ length (now call) ⌝ }
+    ensures { λ _. ⌜ now (row .exit) ≡ colours-in (now (call .entry)) from (length (now (row .entry))) ⌝ }
+{
+    for k in 0..row.len() {
+        row[k] = colour_at(call, from + 4 * k);
+    }
+}
+
+// The run of dots is the colours of the call from byte `from` on.
+fn put_run(dots: &mut [u32], to: usize, count: usize, call: &[u8], from: usize)
+    requires { ⌜ to + count ≤ length (now dots) ⌝ ∗ ⌜ from + 4 * count ≤ length (now call) ⌝ }
+    ensures { λ _. ⌜ Changed to count (λ k. getD (colours-in (now (call .entry)) from count) (k - to) 0) (now (dots .entry)) (now (dots .exit)) ⌝ }
+{
+    read_colours(&mut dots[to..to + count], call, from);
+}
+
+// Whether a call of `len` bytes has `count` colours from byte `from` on.
+fn has_colours(from: usize, count: usize, len: usize) -> bool
+    ensures { λ r. ⌜ r ≡ run-fits from (4 * count) len ⌝ }
+{
+    from <= len && count <= (len - from) / 4
+}
+
+// Whether the span is part of a picture in a slice of `len` dots, and a call of `bytes` bytes has a colour for each of its dots.
+fn put_fits(picture: Picture, span: Span, len: usize, from: usize, bytes: usize) -> bool
+    ensures { λ r. ⌜ r ≡ put-fits picture span len from bytes ⌝ }
+{
+    picture.fits(span.area(), len) && has_colours(from, span.wide, bytes)
+}
+
+// The dots of the span are the colours of the call from byte `from` on, four bytes each.
+pub fn put(pictures: &mut [u32], picture: Picture, span: Span, call: &[u8], from: usize) -> bool
+    ensures answer { λ r. ⌜ r ≡ put-fits picture span (length (now (pictures .entry))) from (length (now (call .entry))) ⌝ }
+    ensures done { λ r. ⌜ (r ≡ true → Painted picture (put-in (span .x) (span .y) (colours-in (now (call .entry)) from (span .wide)) (dots-of (now (pictures .entry)) (picture .at) (picture .wide) (picture .high))) (now (pictures .entry)) (now (pictures .exit))) ⌝ }
+    ensures refused { λ r. ⌜ (r ≡ false → now (pictures .exit) ≡ now (pictures .entry)) ⌝ }
+{
+    if !put_fits(picture, span, pictures.len(), from, call.len()) {
+        return false;
+    }
+    put_run(pictures, picture.place(span.x, span.y), span.wide, call, from);
+    true
+}
+
+// A run of one slice becomes what a run of the other is.
+fn copy_across(dots: &[u32], from: usize, out: &mut [u32], to: usize, count: usize)
+    requires { ⌜ from + count ≤ length (now dots) ⌝ ∗ ⌜ to + count ≤ length (now out) ⌝ }
+    ensures { λ _. ⌜ Changed to count (λ k. getD (now (dots .entry)) (from + (k - to)) 0) (now (out .entry)) (now (out .exit)) ⌝ }
+{
+    out[to..to + count].copy_from_slice(&dots[from..from + count]);
+}
+
+// The dots of the span are written into another slice, from `to` on.
+pub fn copy_out(pictures: &[u32], picture: Picture, span: Span, out: &mut [u32], to: usize) -> bool
+    ensures answer { λ r. ⌜ r ≡ (fits picture (area-of span) (length (now (pictures .entry))) && run-fits to (span .wide) (length (now (out .entry)))) ⌝ }
+    ensures done { λ r. ⌜ (r ≡ true → Changed to (span .wide) (λ k. dots-of (now (pictures .entry)) (picture .at) (picture .wide) (picture .high) (span .x + (k - to)) (span .y)) (now (out .entry)) (now (out .exit))) ⌝ }
+    ensures refused { λ r. ⌜ (r ≡ false → now (out .exit) ≡ now (out .entry)) ⌝ }
+{
+    if !picture.fits(span.area(), pictures.len()) || !run_fits(to, span.wide, out.len()) {
+        return false;
+    }
+    copy_across(pictures, picture.place(span.x, span.y), out, to, span.wide);
+    true
 }

@@ -1,0 +1,23 @@
+use borrow.Author.Needs.{needs}
+use mathlib.Core.Path.{_≡_, sym}
+use mathlib.Core.Bool.{true}
+use native.Mathlib.Omega.{arith}
+use Prim.Native.Nat.{_+_, _≤_}
+use lib.ListN.{length}
+use Rattle.pixels.specs.Colours.{colours-in}
+use Rattle.pixels.specs.Pictures.{fits, area-of}
+use Rattle.pixels.proofs.Laws.{fits-parts, colours-length}
+use Rattle.pixels.proofs.Spans.{put-painted}
+use Rattle.pixels.proofs.put.Needs as need
+
+pub returns : need.returns
+returns c =
+    record {
+      answer = search needs;
+      done = λ e.
+        let t : fits (c .args .picture) (area-of (c .args .span)) (length (c .args .pictures .now)) ≡ true = search needs in
+        let h = fits-parts (c .args .picture) (area-of (c .args .span)) (length (c .args .pictures .now)) t in
+        let l = colours-length (c .args .call .now) (c .args .from) (c .args .span .wide) in
+        put-painted (c .args .picture) (c .args .span .x) (c .args .span .y) (colours-in (c .args .call .now) (c .args .from) (c .args .span .wide)) (c .args .pictures .now) (c .put-run .last .dots)
+          (omega arith) (omega arith) (rw l (rw (c .place .ensures .value) at (c .put-run .ensures)));
+      refused = λ e. search needs }
