@@ -9,6 +9,7 @@ use lib.ListN.{length, getD}
 use Rattle.std.proofs.shelf.Tests.{and-right, and-from, lt-ltb}
 use Rattle.model.specs.Basics.{pick, in-run}
 use Rattle.pixels.specs.declared.Picture.{Picture}
+use Rattle.pixels.specs.declared.Area.{Area}
 use Rattle.pixels.specs.Runs.{Changed}
 use Rattle.pixels.specs.Pictures.{place, dots-of, Painted, copied}
 use Rattle.pixels.proofs.Laws.{dot-inside}
@@ -35,15 +36,14 @@ copied-more at s high x y a b w lo n lo′ n′ t old new new′ u v l f g p q =
         rw (e, z) (p .dots (x + (i - a)) (y + t) (omega arith) ∙ rw (and-right (in-run a w (x + (i - a))) (in-run lo n (y + t)) f))
 
 -- all rows are copied
-pub copied-all : (p : Picture) (x y a b w h : ℕ) (old new : List ℕ) → x + w ≤ p .wide → y + h ≤ p .high → a + w ≤ p .wide → b + h ≤ p .high →
-    Rows (p .at) (p .wide) (p .high) a w b h (source (p .at) (p .wide) x y a b old) old new →
-    Painted p (copied x y w h a b (dots-of old (p .at) (p .wide) (p .high))) old new
-copied-all p x y a b w h old new u u′ v v′ r =
+pub copied-all : (p : Picture) (s : Area) (a b : ℕ) (old new : List ℕ) → s .x + s .wide ≤ p .wide → s .y + s .high ≤ p .high → a + s .wide ≤ p .wide → b + s .high ≤ p .high →
+    Rows (p .at) (p .wide) (p .high) a (s .wide) b (s .high) (source (p .at) (p .wide) (s .x) (s .y) a b old) old new → Painted p (copied s a b) old new
+copied-all p s a b old new u u′ v v′ r =
     record {
-      dots = rows-all (p .at) (p .wide) (p .high) a b w h (source (p .at) (p .wide) x y a b old) (λ i j. dots-of old (p .at) (p .wide) (p .high) (x + (i - a)) (y + (j - b))) old new v v′ r inner;
+      dots = rows-all (p .at) (p .wide) (p .high) a b (s .wide) (s .high) (source (p .at) (p .wide) (s .x) (s .y) a b old) (λ i j. dots-of old (p .at) (p .wide) (p .high) (s .x + (i - a)) (s .y + (j - b))) old new v v′ r inner;
       others = r .others;
       len = r .len }
   where
-    inner : (i j : ℕ) → a ≤ i → i < a + w → b ≤ j → j < b + h →
-        source (p .at) (p .wide) x y a b old i j ≡ dots-of old (p .at) (p .wide) (p .high) (x + (i - a)) (y + (j - b))
-    inner i j c d e f = sym (dot-inside old (p .at) (p .wide) (p .high) (x + (i - a)) (y + (j - b)) (omega arith) (omega arith))
+    inner : (i j : ℕ) → a ≤ i → i < a + s .wide → b ≤ j → j < b + s .high →
+        source (p .at) (p .wide) (s .x) (s .y) a b old i j ≡ dots-of old (p .at) (p .wide) (p .high) (s .x + (i - a)) (s .y + (j - b))
+    inner i j c d e f = sym (dot-inside old (p .at) (p .wide) (p .high) (s .x + (i - a)) (s .y + (j - b)) (omega arith) (omega arith))

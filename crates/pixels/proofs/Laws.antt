@@ -62,13 +62,14 @@ same-dots p q at to wide high h = fun-ext (λ i. fun-ext (λ j. at-dot i j))
         ]
 
 -- the dots of a painted picture, as one function
-pub painted-dots : (p : Picture) (f : ℕ → ℕ → ℕ) (old new : List ℕ) → Painted p f old new → dots-of new (p .at) (p .wide) (p .high) ≡ f
-painted-dots p f old new h = fun-ext (λ i. fun-ext (λ j. h .dots i j))
+pub painted-dots : (p : Picture) (paint : (ℕ → ℕ → ℕ) → ℕ → ℕ → ℕ) (old new : List ℕ) → Painted p paint old new →
+    dots-of new (p .at) (p .wide) (p .high) ≡ paint (dots-of old (p .at) (p .wide) (p .high))
+painted-dots p paint old new h = fun-ext (λ i. fun-ext (λ j. h .dots i j))
 
 -- a picture that lies apart from the one that was painted has the dots that it had
-pub apart-same : (p : Picture) (f : ℕ → ℕ → ℕ) (old new : List ℕ) (at wide high : ℕ) → Painted p f old new →
+pub apart-same : (p : Picture) (paint : (ℕ → ℕ → ℕ) → ℕ → ℕ → ℕ) (old new : List ℕ) (at wide high : ℕ) → Painted p paint old new →
     (at + wide * high ≤ p .at) ⊎ (p .at + p .wide * p .high ≤ at) → dots-of new at wide high ≡ dots-of old at wide high
-apart-same p f old new at wide high h o =
+apart-same p paint old new at wide high h o =
     same-dots old new at at wide high (λ k l. h .others (at + k) (elim o [ inl a ↦ inl (omega arith) | inr a ↦ inr (omega arith) ]))
 
 -- a picture that lies apart from a run that was written has the dots that it had

@@ -22,7 +22,7 @@ one-row y j = grind (arith, tells)
 
 pub put-painted : (p : Picture) (x y : ℕ) (colours old new : List ℕ) → x + length colours ≤ p .wide → y + 1 ≤ p .high →
     Changed (place (p .at) (p .wide) x y) (length colours) (λ k. getD colours (k - place (p .at) (p .wide) x y) 0) old new →
-    Painted p (put-in x y colours (dots-of old (p .at) (p .wide) (p .high))) old new
+    Painted p (put-in x y colours) old new
 put-painted p x y colours old new u v q =
     record {
       dots = rows-all (p .at) (p .wide) (p .high) x y (length colours) 1 (λ i j. getD colours (i - x) 0) (λ i j. getD colours (i - x) 0) old new u v rows (λ i j a b c d. refl);

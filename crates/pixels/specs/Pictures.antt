@@ -39,20 +39,20 @@ target-of s a b = record { x = a; y = b; wide = s .wide; high = s .high }
 abbrev pub fits : Picture → Area → ℕ → Bool
 fits p a len = lies-in p len && has-area p a
 
--- what paint makes of dots d, as the desk has it: a box in one colour,
-abbrev pub filled : ℕ → ℕ → ℕ → ℕ → ℕ → (ℕ → ℕ → ℕ) → ℕ → ℕ → ℕ
-filled x y w h colour d i j = pick (in-box x y w h i j) colour (d i j)
+-- What paint makes of a picture's dots d, in the desk's own words: an area is one colour,
+abbrev pub filled : Area → ℕ → (ℕ → ℕ → ℕ) → ℕ → ℕ → ℕ
+filled s colour d i j = pick (in-box (s .x) (s .y) (s .wide) (s .high) i j) colour (d i j)
 
--- a row of colours,
+-- a row of colours is put from x, y on,
 abbrev pub put-in : ℕ → ℕ → List ℕ → (ℕ → ℕ → ℕ) → ℕ → ℕ → ℕ
 put-in x y colours d i j = pick (in-box x y (length colours) 1 i j) (getD colours (i - x) 0) (d i j)
 
--- and the box at x, y copied to a, b
-abbrev pub copied : ℕ → ℕ → ℕ → ℕ → ℕ → ℕ → (ℕ → ℕ → ℕ) → ℕ → ℕ → ℕ
-copied x y w h a b d i j = pick (in-box a b w h i j) (d (x + (i - a)) (y + (j - b))) (d i j)
+-- and an area is copied to a, b.
+abbrev pub copied : Area → ℕ → ℕ → (ℕ → ℕ → ℕ) → ℕ → ℕ → ℕ
+copied s a b d i j = pick (in-box a b (s .wide) (s .high) i j) (d (s .x + (i - a)) (s .y + (j - b))) (d i j)
 
--- the picture's dots have become f, and all that lies outside of the picture is as it was
-pub record Painted (p : Picture) (f : ℕ → ℕ → ℕ) (old new : List ℕ) : Type 0 where
-  pub dots : (i j : ℕ) → dots-of new (p .at) (p .wide) (p .high) i j ≡ f i j
+-- the picture's dots have become what `paint` makes of them, and all that lies outside of the picture is as it was
+pub record Painted (p : Picture) (paint : (ℕ → ℕ → ℕ) → ℕ → ℕ → ℕ) (old new : List ℕ) : Type 0 where
+  pub dots : (i j : ℕ) → dots-of new (p .at) (p .wide) (p .high) i j ≡ paint (dots-of old (p .at) (p .wide) (p .high)) i j
   pub others : (k : ℕ) → (k < p .at) ⊎ (p .at + p .wide * p .high ≤ k) → getD new k 0 ≡ getD old k 0
   pub len : length new ≡ length old

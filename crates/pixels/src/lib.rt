@@ -36,7 +36,7 @@ pub struct Span {
 
 impl Span {
     // The span as a box of one row.
-    pub fn area(self) -> Area
+    fn area(self) -> Area
         ensures { λ r. ⌜ r ≡ area-of self ⌝ }
     {
         Area { x: self.x, y: self.y, wide: self.wide, high: 1 }
@@ -45,7 +45,7 @@ impl Span {
 
 impl Area {
     // The box of the same size at a, b.
-    pub fn moved_to(self, a: usize, b: usize) -> Area
+    fn moved_to(self, a: usize, b: usize) -> Area
         ensures { λ r. ⌜ r ≡ target-of self a b ⌝ }
     {
         Area { x: a, y: b, ..self }
@@ -54,7 +54,7 @@ impl Area {
 
 impl Picture {
     // Whether the whole picture lies in a slice of `len` dots.
-    pub fn lies_in(self, len: usize) -> bool
+    fn lies_in(self, len: usize) -> bool
         ensures { λ r. ⌜ r ≡ lies-in self len ⌝ }
     {
         let Some(size) = self.wide.checked_mul(self.high) else {
@@ -67,14 +67,14 @@ impl Picture {
     }
 
     // Whether the area is part of the picture.
-    pub fn has(self, area: Area) -> bool
+    fn has(self, area: Area) -> bool
         ensures { λ r. ⌜ r ≡ has-area self area ⌝ }
     {
         area.x <= self.wide && area.wide <= self.wide - area.x && area.y <= self.high && area.high <= self.high - area.y
     }
 
     // Whether the area is part of the picture, and the picture lies in a slice of `len` dots.
-    pub fn fits(self, area: Area, len: usize) -> bool
+    fn fits(self, area: Area, len: usize) -> bool
         ensures { λ r. ⌜ r ≡ fits self area len ⌝ }
     {
         self.lies_in(len) && self.has(area)
@@ -100,7 +100,7 @@ impl Picture {
 }
 
 // Whether a slice of `len` elements has `count` of them from `from` on.
-pub fn run_fits(from: usize, count: usize, len: usize) -> bool
+fn run_fits(from: usize, count: usize, len: usize) -> bool
     ensures { λ r. ⌜ r ≡ run-fits from count len ⌝ }
 {
     from <= len && count <= len - from
@@ -138,7 +138,7 @@ pub fn clear(dots: &mut [u32], from: usize, count: usize) -> bool
 // Each row of the area is the colour.
 fn fill_rows(pictures: &mut [u32], picture: Picture, area: Area, colour: u32)
     requires { ⌜ fits picture area (length (now pictures)) ≡ true ⌝ }
-    ensures { λ _. ⌜ Painted picture (filled (area .x) (area .y) (area .wide) (area .high) colour (dots-of (now (pictures .entry)) (picture .at) (picture .wide) (picture .high))) (now (pictures .entry)) (now (pictures .exit)) ⌝ }
+    ensures { λ _. ⌜ Painted picture (filled area colour) (now (pictures .entry)) (now (pictures .exit)) ⌝ }
 {
     for r in 0..area.high {
         fill_run(pictures, picture.place(area.x, area.y + r), area.wide, colour);
@@ -148,7 +148,7 @@ fn fill_rows(pictures: &mut [u32], picture: Picture, area: Area, colour: u32)
 // The area of the picture is the colour.
 pub fn fill(pictures: &mut [u32], picture: Picture, area: Area, colour: u32) -> bool
     ensures answer { λ r. ⌜ r ≡ fits picture area (length (now (pictures .entry))) ⌝ }
-    ensures done { λ r. ⌜ (r ≡ true → Painted picture (filled (area .x) (area .y) (area .wide) (area .high) colour (dots-of (now (pictures .entry)) (picture .at) (picture .wide) (picture .high))) (now (pictures .entry)) (now (pictures .exit))) ⌝ }
+    ensures done { λ r. ⌜ (r ≡ true → Painted picture (filled area colour) (now (pictures .entry)) (now (pictures .exit))) ⌝ }
     ensures refused { λ r. ⌜ (r ≡ false → now (pictures .exit) ≡ now (pictures .entry)) ⌝ }
 {
     if !picture.fits(area, pictures.len()) {
@@ -173,7 +173,7 @@ fn copy_up(pictures: &mut [u32], picture: Picture, area: Area, a: usize, b: usiz
     requires source { ⌜ fits picture area (length (now pictures)) ≡ true ⌝ }
     requires target { ⌜ a + area .wide ≤ picture .wide ⌝ ∗ ⌜ b + area .high ≤ picture .high ⌝ }
     requires order { ⌜ b ≤ area .y ⌝ }
-    ensures { λ _. ⌜ Painted picture (copied (area .x) (area .y) (area .wide) (area .high) a b (dots-of (now (pictures .entry)) (picture .at) (picture .wide) (picture .high))) (now (pictures .entry)) (now (pictures .exit)) ⌝ }
+    ensures { λ _. ⌜ Painted picture (copied area a b) (now (pictures .entry)) (now (pictures .exit)) ⌝ }
 {
     for r in 0..area.high {
         copy_row(pictures, picture, area, a, b, r);
@@ -185,7 +185,7 @@ fn copy_down(pictures: &mut [u32], picture: Picture, area: Area, a: usize, b: us
     requires source { ⌜ fits picture area (length (now pictures)) ≡ true ⌝ }
     requires target { ⌜ a + area .wide ≤ picture .wide ⌝ ∗ ⌜ b + area .high ≤ picture .high ⌝ }
     requires order { ⌜ area .y ≤ b ⌝ }
-    ensures { λ _. ⌜ Painted picture (copied (area .x) (area .y) (area .wide) (area .high) a b (dots-of (now (pictures .entry)) (picture .at) (picture .wide) (picture .high))) (now (pictures .entry)) (now (pictures .exit)) ⌝ }
+    ensures { λ _. ⌜ Painted picture (copied area a b) (now (pictures .entry)) (now (pictures .exit)) ⌝ }
 {
     for r in (0..area.high).rev() {
         copy_row(pictures, picture, area, a, b, r);
@@ -195,7 +195,7 @@ fn copy_down(pictures: &mut [u32], picture: Picture, area: Area, a: usize, b: us
 // The box of the area's size at a, b becomes what the area was, also where the two overlap.
 pub fn copy(pictures: &mut [u32], picture: Picture, area: Area, a: usize, b: usize) -> bool
     ensures answer { λ r. ⌜ r ≡ (fits picture area (length (now (pictures .entry))) && has-area picture (target-of area a b)) ⌝ }
-    ensures done { λ r. ⌜ (r ≡ true → Painted picture (copied (area .x) (area .y) (area .wide) (area .high) a b (dots-of (now (pictures .entry)) (picture .at) (picture .wide) (picture .high))) (now (pictures .entry)) (now (pictures .exit))) ⌝ }
+    ensures done { λ r. ⌜ (r ≡ true → Painted picture (copied area a b) (now (pictures .entry)) (now (pictures .exit))) ⌝ }
     ensures refused { λ r. ⌜ (r ≡ false → now (pictures .exit) ≡ now (pictures .entry)) ⌝ }
 {
     if !picture.fits(area, pictures.len()) || !picture.has(area.moved_to(a, b)) {
@@ -285,7 +285,7 @@ fn put_fits(picture: Picture, span: Span, len: usize, from: usize, bytes: usize)
 // The dots of the span are the colours of the call from byte `from` on, four bytes each.
 pub fn put(pictures: &mut [u32], picture: Picture, span: Span, call: &[u8], from: usize) -> bool
     ensures answer { λ r. ⌜ r ≡ put-fits picture span (length (now (pictures .entry))) from (length (now (call .entry))) ⌝ }
-    ensures done { λ r. ⌜ (r ≡ true → Painted picture (put-in (span .x) (span .y) (colours-in (now (call .entry)) from (span .wide)) (dots-of (now (pictures .entry)) (picture .at) (picture .wide) (picture .high))) (now (pictures .entry)) (now (pictures .exit))) ⌝ }
+    ensures done { λ r. ⌜ (r ≡ true → Painted picture (put-in (span .x) (span .y) (colours-in (now (call .entry)) from (span .wide))) (now (pictures .entry)) (now (pictures .exit))) ⌝ }
     ensures refused { λ r. ⌜ (r ≡ false → now (pictures .exit) ≡ now (pictures .entry)) ⌝ }
 {
     if !put_fits(picture, span, pictures.len(), from, call.len()) {

@@ -19,5 +19,5 @@ returns c =
     let e : c .loop-r .r ≡ 0 = omega arith in
     let lo : c .args .b + 0 ≡ c .args .b = omega arith in
     let n : c .args .area .high - 0 ≡ c .args .area .high = omega arith in
-    copied-all (c .args .picture) (c .args .area .x) (c .args .area .y) (c .args .a) (c .args .b) (c .args .area .wide) (c .args .area .high) (c .args .pictures .now) (c .loop-r .pictures)
+    copied-all (c .args .picture) (c .args .area) (c .args .a) (c .args .b) (c .args .pictures .now) (c .loop-r .pictures)
       (omega arith) (omega arith) (omega arith) (omega arith) (rw (e, lo, n) at (c .loop-r .inv))

@@ -17,5 +17,5 @@ pub returns : need.returns
 returns c =
     let h = fits-parts (c .args .picture) (c .args .area) (length (c .args .pictures .now)) (c .pre .source) in
     let e : c .loop-r .r ≡ c .args .area .high = omega arith in
-    copied-all (c .args .picture) (c .args .area .x) (c .args .area .y) (c .args .a) (c .args .b) (c .args .area .wide) (c .args .area .high) (c .args .pictures .now) (c .loop-r .pictures)
+    copied-all (c .args .picture) (c .args .area) (c .args .a) (c .args .b) (c .args .pictures .now) (c .loop-r .pictures)
       (omega arith) (omega arith) (omega arith) (omega arith) (rw e at (c .loop-r .inv))
