@@ -2,21 +2,24 @@
 use mathlib.Core.Path.{_≡_, refl, sym, ap, _∙_, fun-ext}
 use mathlib.Core.Bool.{Bool, true, false, _&&_}
 use mathlib.Core.Logic.{_⊎_, inl, inr}
-use mathlib.Core.List.{List}
+use mathlib.Core.List.{List, _++_}
 use Prim.Native.Nat.{ℕ, _+_, _-_, _*_, _≤_, _<_}
 use native.Mathlib.Omega.{arith}
 use lib.Dec.{leb, ltb}
-use lib.ListN.{length, getD}
+use lib.ListN.{length, getD, take, drop}
+use lib.Seq.{ext-getD}
+use borrow.Author.Needs.{needs}
+use Rattle.std.proofs.shelf.Lists.{places}
 use Rattle.std.proofs.shelf.Counted.{length-map-counting, getD-map-counting}
 use Rattle.std.proofs.shelf.Bits.{mul-add-lt}
-use Rattle.std.proofs.shelf.Tests.{and-parts, and-from, leb-true, le-leb, cases-bool, ltb-true, lt-ltb, le-ltb, and-left, and-right}
+use Rattle.std.proofs.shelf.Tests.{and-parts, and-from, leb-true, le-leb, cases-bool, cases-lt, ltb-true, lt-ltb, le-ltb, and-left, and-right}
 use Rattle.model.specs.Basics.{pick, in-run}
 use Rattle.pixels.specs.declared.Picture.{Picture}
 use Rattle.pixels.specs.declared.Area.{Area}
 use Rattle.pixels.specs.Runs.{Changed, run-fits}
 use Rattle.pixels.specs.Pictures.{place, dots-of, fits, Painted}
 use Rattle.pixels.specs.Colours.{colour-at, colours-in}
-use Rattle.pixels.proofs.Runs.{in-run-yes, in-run-apart}
+use Rattle.pixels.proofs.Runs.{in-run-yes, in-run-below, in-run-above, in-run-apart}
 
 -- a box of a picture of a slice fits
 pub fits-yes : (p : Picture) (a : Area) (len : ℕ) → p .at + p .wide * p .high ≤ len → a .x + a .wide ≤ p .wide → a .y + a .high ≤ p .high → fits p a len ≡ true
@@ -103,6 +106,23 @@ moved-dots from to n old new at wide high h a b =
       (λ k l.
         let e : from + (((to + (at - from)) + k) - to) ≡ at + k = omega arith in
         h .places ((to + (at - from)) + k) ∙ rw (in-run-yes to n ((to + (at - from)) + k) (omega arith) (omega arith), e))
+
+-- the whole slice after a run was written, as lists: what lay before, the run, what lies behind
+pub changed-list : (lo n : ℕ) (f : ℕ → ℕ) (old new ys : List ℕ) → lo + n ≤ length old → length ys ≡ n → ((k : ℕ) → k < n → getD ys k 0 ≡ f (lo + k)) →
+    Changed lo n f old new → new ≡ take lo old ++ (ys ++ drop (lo + n) old)
+changed-list lo n f old new ys h l g q = ext-getD 0 new (take lo old ++ (ys ++ drop (lo + n) old)) (q .len ∙ whole) (λ k b. q .places k ∙ by k (omega (arith, q .len)) (cases-lt k lo) (cases-lt k (lo + n)))
+  where
+    whole : length old ≡ length (take lo old ++ (ys ++ drop (lo + n) old))
+    whole = search (needs, places)
+    by : (k : ℕ) → k < length old → (k < lo) ⊎ (lo ≤ k) → (k < lo + n) ⊎ (lo + n ≤ k) →
+        pick (in-run lo n k) (f k) (getD old k 0) ≡ getD (take lo old ++ (ys ++ drop (lo + n) old)) k 0
+    by k b (inl c) d = rw (in-run-below lo n k c) (search (needs, places))
+    by k b (inr c) (inl d) =
+        let e : lo + (k - lo) ≡ k = omega arith in
+        let z : getD ys (k - lo) 0 ≡ f k = rw e at (g (k - lo) (omega arith)) in
+        let t : getD (take lo old ++ (ys ++ drop (lo + n) old)) k 0 ≡ getD ys (k - lo) 0 = search (needs, places) in
+        rw (in-run-yes lo n k c d) (sym (t ∙ z))
+    by k b (inr c) (inr d) = rw (in-run-above lo n k d) (search (needs, places))
 
 pub colours-length : (bytes : List ℕ) (from count : ℕ) → length (colours-in bytes from count) ≡ count
 unfolding colours-in

@@ -282,6 +282,14 @@ fn put_fits(picture: Picture, span: Span, len: usize, from: usize, bytes: usize)
     picture.fits(span.area(), len) && has_colours(from, span.wide, bytes)
 }
 
+// The dots of the span are the colours of the call from byte `from` on, where all that fits.
+fn put_span(pictures: &mut [u32], picture: Picture, span: Span, call: &[u8], from: usize)
+    requires { ⌜ put-fits picture span (length (now pictures)) from (length (now call)) ≡ true ⌝ }
+    ensures { λ _. ⌜ Painted picture (put-in (span .x) (span .y) (colours-in (now (call .entry)) from (span .wide))) (now (pictures .entry)) (now (pictures .exit)) ⌝ }
+{
+    put_run(pictures, picture.place(span.x, span.y), span.wide, call, from);
+}
+
 // The dots of the span are the colours of the call from byte `from` on, four bytes each.
 pub fn put(pictures: &mut [u32], picture: Picture, span: Span, call: &[u8], from: usize) -> bool
     ensures answer { λ r. ⌜ r ≡ put-fits picture span (length (now (pictures .entry))) from (length (now (call .entry))) ⌝ }
@@ -291,7 +299,7 @@ pub fn put(pictures: &mut [u32], picture: Picture, span: Span, call: &[u8], from
     if !put_fits(picture, span, pictures.len(), from, call.len()) {
         return false;
     }
-    put_run(pictures, picture.place(span.x, span.y), span.wide, call, from);
+    put_span(pictures, picture, span, call, from);
     true
 }
 
@@ -303,6 +311,15 @@ fn copy_across(dots: &[u32], from: usize, out: &mut [u32], to: usize, count: usi
     out[to..to + count].copy_from_slice(&dots[from..from + count]);
 }
 
+// The dots of the span are written into another slice, from `to` on, where they fit.
+fn copy_span(pictures: &[u32], picture: Picture, span: Span, out: &mut [u32], to: usize)
+    requires source { ⌜ fits picture (area-of span) (length (now pictures)) ≡ true ⌝ }
+    requires room { ⌜ to + span .wide ≤ length (now out) ⌝ }
+    ensures { λ _. ⌜ Changed to (span .wide) (λ k. dots-of (now (pictures .entry)) (picture .at) (picture .wide) (picture .high) (span .x + (k - to)) (span .y)) (now (out .entry)) (now (out .exit)) ⌝ }
+{
+    copy_across(pictures, picture.place(span.x, span.y), out, to, span.wide);
+}
+
 // The dots of the span are written into another slice, from `to` on.
 pub fn copy_out(pictures: &[u32], picture: Picture, span: Span, out: &mut [u32], to: usize) -> bool
     ensures answer { λ r. ⌜ r ≡ (fits picture (area-of span) (length (now (pictures .entry))) && run-fits to (span .wide) (length (now (out .entry)))) ⌝ }
@@ -312,6 +329,6 @@ pub fn copy_out(pictures: &[u32], picture: Picture, span: Span, out: &mut [u32],
     if !picture.fits(span.area(), pictures.len()) || !run_fits(to, span.wide, out.len()) {
         return false;
     }
-    copy_across(pictures, picture.place(span.x, span.y), out, to, span.wide);
+    copy_span(pictures, picture, span, out, to);
     true
 }
