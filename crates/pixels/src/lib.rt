@@ -135,13 +135,21 @@ pub fn clear(dots: &mut [u32], from: usize, count: usize) -> bool
     true
 }
 
+// Row r of the area is the colour.
+fn fill_row(pictures: &mut [u32], picture: Picture, area: Area, r: usize, colour: u32)
+    requires { ⌜ fits picture area (length (now pictures)) ≡ true ⌝ ∗ ⌜ r < area .high ⌝ }
+    ensures { λ _. ⌜ Changed (place (picture .at) (picture .wide) (area .x) (area .y + r)) (area .wide) (λ _. colour) (now (pictures .entry)) (now (pictures .exit)) ⌝ }
+{
+    fill_run(pictures, picture.place(area.x, area.y + r), area.wide, colour);
+}
+
 // Each row of the area is the colour.
 fn fill_rows(pictures: &mut [u32], picture: Picture, area: Area, colour: u32)
     requires { ⌜ fits picture area (length (now pictures)) ≡ true ⌝ }
     ensures { λ _. ⌜ Painted picture (filled area colour) (now (pictures .entry)) (now (pictures .exit)) ⌝ }
 {
     for r in 0..area.high {
-        fill_run(pictures, picture.place(area.x, area.y + r), area.wide, colour);
+        fill_row(pictures, picture, area, r, colour);
     }
 }
 

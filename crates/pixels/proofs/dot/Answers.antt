@@ -12,7 +12,7 @@ use Rattle.pixels.proofs.dot.Needs as need
 pub returns-then-i-picture : need.returns-then-i-picture
 returns-then-i-picture c =
     sym (dot-outside (c .args .pictures .now) (c .args .picture .at) (c .args .picture .wide) (c .args .picture .high) (c .args .i) (c .args .j)
-      (elim (c .then-i-picture .either) [ inl h ↦ inl h | inr h ↦ inr (h .1) ]))
+      (elim (c .then-i-picture .either) [ inl h ↦ inl (omega arith) | inr h ↦ inr (omega arith) ]))
 
 -- no slice has so many dots
 pub returns-in-rest : need.returns-in-rest

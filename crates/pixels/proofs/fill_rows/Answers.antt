@@ -11,9 +11,9 @@ pub loop-r-again : need.loop-r-again
 loop-r-again c =
     let h = fits-parts (c .args .picture) (c .args .area) (length (c .args .pictures .now)) (c .pre) in
     rows-more (c .args .picture .at) (c .args .picture .wide) (c .args .picture .high) (c .args .area .x) (c .args .area .wide) (c .args .area .y) (c .loop-r .r) (c .args .area .y) (c .loop-r .r + 1) (c .args .area .y + c .loop-r .r)
-      (λ _ _. c .args .colour) (λ _. c .args .colour) (c .args .pictures .now) (c .loop-r .pictures) (c .fill-run .last .dots)
+      (λ _ _. c .args .colour) (λ _. c .args .colour) (c .args .pictures .now) (c .loop-r .pictures) (c .fill-row .last .pictures)
       (omega arith) (omega arith) (run-next (c .args .area .y) (c .loop-r .r)) (c .loop-r .inv)
-      (rw (c .place .ensures .value) at (c .fill-run .ensures)) (λ i a b. refl)
+      (c .fill-row .ensures) (λ i a b. refl)
 
 pub returns : need.returns
 returns c =
