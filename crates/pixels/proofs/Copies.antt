@@ -42,7 +42,8 @@ copied-all p s a b old new u u′ v v′ r =
     record {
       dots = rows-all (p .at) (p .wide) (p .high) a b (s .wide) (s .high) (source (p .at) (p .wide) (s .x) (s .y) a b old) (λ i j. dots-of old (p .at) (p .wide) (p .high) (s .x + (i - a)) (s .y + (j - b))) old new v v′ r inner;
       others = r .others;
-      len = r .len }
+      len = r .len;
+    }
   where
     inner : (i j : ℕ) → a ≤ i → i < a + s .wide → b ≤ j → j < b + s .high →
         source (p .at) (p .wide) (s .x) (s .y) a b old i j ≡ dots-of old (p .at) (p .wide) (p .high) (s .x + (i - a)) (s .y + (j - b))

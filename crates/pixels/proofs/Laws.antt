@@ -16,9 +16,10 @@ use Rattle.std.proofs.shelf.Tests.{and-parts, and-from, leb-true, le-leb, cases
 use Rattle.model.specs.Basics.{pick, in-run}
 use Rattle.pixels.specs.declared.Picture.{Picture}
 use Rattle.pixels.specs.declared.Area.{Area}
-use Rattle.pixels.specs.Runs.{Changed, run-fits}
-use Rattle.pixels.specs.Pictures.{place, dots-of, fits, Painted}
-use Rattle.pixels.specs.Colours.{colour-at, colours-in}
+use Rattle.pixels.specs.declared.Span.{Span}
+use Rattle.pixels.specs.Runs.{Changed, run-fits, shift-fits}
+use Rattle.pixels.specs.Pictures.{place, dots-of, fits, copy-fits, out-fits, area-of, Painted}
+use Rattle.pixels.specs.Colours.{colour-at, colours-in, put-fits}
 use Rattle.pixels.proofs.Runs.{in-run-yes, in-run-below, in-run-above, in-run-apart}
 
 -- a box of a picture of a slice fits
@@ -34,6 +35,22 @@ fits-parts p a len e =
 
 pub run-fits-yes : (lo n len : ℕ) → lo + n ≤ len → run-fits lo n len ≡ true
 run-fits-yes lo n len h = le-leb (lo + n) len h
+
+-- and so with what the other requests ask for
+pub shift-fits-yes : (from to n len : ℕ) → from + n ≤ len → to + n ≤ len → shift-fits from to n len ≡ true
+shift-fits-yes from to n len h k = and-from _ _ (le-leb (from + n) len h) (le-leb (to + n) len k)
+
+pub copy-fits-yes : (p : Picture) (s : Area) (a b len : ℕ) → p .at + p .wide * p .high ≤ len → s .x + s .wide ≤ p .wide → s .y + s .high ≤ p .high →
+    a + s .wide ≤ p .wide → b + s .high ≤ p .high → copy-fits p s a b len ≡ true
+copy-fits-yes p s a b len h u v k l = and-from _ _ (fits-yes p s len h u v) (and-from _ _ (le-leb _ _ k) (le-leb _ _ l))
+
+pub put-fits-yes : (p : Picture) (s : Span) (len from bytes : ℕ) → p .at + p .wide * p .high ≤ len → s .x + s .wide ≤ p .wide → s .y < p .high →
+    from + 4 * s .wide ≤ bytes → put-fits p s len from bytes ≡ true
+put-fits-yes p s len from bytes h u v k = and-from _ _ (fits-yes p (area-of s) len h u (omega arith)) (le-leb _ _ k)
+
+pub out-fits-yes : (p : Picture) (s : Span) (len to room : ℕ) → p .at + p .wide * p .high ≤ len → s .x + s .wide ≤ p .wide → s .y < p .high →
+    to + s .wide ≤ room → out-fits p s len to room ≡ true
+out-fits-yes p s len to room h u v k = and-from _ _ (fits-yes p (area-of s) len h u (omega arith)) (le-leb _ _ k)
 
 -- a dot of a picture, where it lies
 pub dot-inside : (l : List ℕ) (at wide high i j : ℕ) → i < wide → j < high → dots-of l at wide high i j ≡ getD l (place at wide i j) 0
@@ -55,13 +72,13 @@ same-dots p q at to wide high h = fun-ext (λ i. fun-ext (λ j. at-dot i j))
     at-dot : (i j : ℕ) → pick (ltb i wide && ltb j high) (getD q (place to wide i j) 0) 0 ≡ pick (ltb i wide && ltb j high) (getD p (place at wide i j) 0) 0
     at-dot i j =
         elim (cases-bool (ltb i wide && ltb j high)) [
-          inl b ↦
-            let c = and-parts (ltb i wide) (ltb j high) b in
-            let m = mul-add-lt j wide i high (ltb-true j high (c .1)) (ltb-true i wide (c .0)) in
-            let e : to + (j * wide + i) ≡ place to wide i j = omega arith in
-            let d : at + (j * wide + i) ≡ place at wide i j = omega arith in
-            rw b (rw (e, d) at (h (j * wide + i) m))
-        | inr b ↦ rw b
+          | inl b ↦
+              let c = and-parts (ltb i wide) (ltb j high) b in
+              let m = mul-add-lt j wide i high (ltb-true j high (c .1)) (ltb-true i wide (c .0)) in
+              let e : to + (j * wide + i) ≡ place to wide i j = omega arith in
+              let d : at + (j * wide + i) ≡ place at wide i j = omega arith in
+              rw b (rw (e, d) at (h (j * wide + i) m))
+          | inr b ↦ rw b
         ]
 
 -- the dots of a painted picture, as one function
@@ -80,7 +97,7 @@ pub changed-apart : (lo n : ℕ) (f : ℕ → ℕ) (old new : List ℕ) (at wide
     (at + wide * high ≤ lo) ⊎ (lo + n ≤ at) → dots-of new at wide high ≡ dots-of old at wide high
 changed-apart lo n f old new at wide high h o =
     same-dots old new at at wide high
-      (λ k l. h .places (at + k) ∙ rw (in-run-apart lo n (at + k) lo (lo + n) (omega arith) (omega arith) (elim o [ inl a ↦ inl (omega arith) | inr a ↦ inr (omega arith) ])))
+    (λ k l. h .places (at + k) ∙ rw (in-run-apart lo n (at + k) lo (lo + n) (omega arith) (omega arith) (elim o [ inl a ↦ inl (omega arith) | inr a ↦ inr (omega arith) ])))
 
 -- a picture in a run that was made 0 is 0 at every dot
 pub cleared-dots : (lo n : ℕ) (old new : List ℕ) (at wide high : ℕ) → Changed lo n (λ _. 0) old new →
@@ -91,11 +108,11 @@ cleared-dots lo n old new at wide high h a b = fun-ext (λ i. fun-ext (λ j. at-
     at-dot : (i j : ℕ) → pick (ltb i wide && ltb j high) (getD new (place at wide i j) 0) 0 ≡ 0
     at-dot i j =
         elim (cases-bool (ltb i wide && ltb j high)) [
-          inl t ↦
-            let c = and-parts (ltb i wide) (ltb j high) t in
-            let m = mul-add-lt j wide i high (ltb-true j high (c .1)) (ltb-true i wide (c .0)) in
-            rw t (h .places (place at wide i j) ∙ rw (in-run-yes lo n (place at wide i j) (omega arith) (omega arith)))
-        | inr t ↦ rw t
+          | inl t ↦
+              let c = and-parts (ltb i wide) (ltb j high) t in
+              let m = mul-add-lt j wide i high (ltb-true j high (c .1)) (ltb-true i wide (c .0)) in
+              rw t (h .places (place at wide i j) ∙ rw (in-run-yes lo n (place at wide i j) (omega arith) (omega arith)))
+          | inr t ↦ rw t
         ]
 
 -- a picture in a run that was moved has its dots at its new place
@@ -103,9 +120,9 @@ pub moved-dots : (from to n : ℕ) (old new : List ℕ) (at wide high : ℕ) →
     from ≤ at → at + wide * high ≤ from + n → dots-of new (to + (at - from)) wide high ≡ dots-of old at wide high
 moved-dots from to n old new at wide high h a b =
     same-dots old new at (to + (at - from)) wide high
-      (λ k l.
-        let e : from + (((to + (at - from)) + k) - to) ≡ at + k = omega arith in
-        h .places ((to + (at - from)) + k) ∙ rw (in-run-yes to n ((to + (at - from)) + k) (omega arith) (omega arith), e))
+    (λ k l.
+    let e : from + (((to + (at - from)) + k) - to) ≡ at + k = omega arith in
+    h .places ((to + (at - from)) + k) ∙ rw (in-run-yes to n ((to + (at - from)) + k) (omega arith) (omega arith), e))
 
 -- the whole slice after a run was written, as lists: what lay before, the run, what lies behind
 pub changed-list : (lo n : ℕ) (f : ℕ → ℕ) (old new ys : List ℕ) → lo + n ≤ length old → length ys ≡ n → ((k : ℕ) → k < n → getD ys k 0 ≡ f (lo + k)) →
@@ -114,6 +131,7 @@ changed-list lo n f old new ys h l g q = ext-getD 0 new (take lo old ++ (ys ++ d
   where
     whole : length old ≡ length (take lo old ++ (ys ++ drop (lo + n) old))
     whole = search (needs, places)
+
     by : (k : ℕ) → k < length old → (k < lo) ⊎ (lo ≤ k) → (k < lo + n) ⊎ (lo + n ≤ k) →
         pick (in-run lo n k) (f k) (getD old k 0) ≡ getD (take lo old ++ (ys ++ drop (lo + n) old)) k 0
     by k b (inl c) d = rw (in-run-below lo n k c) (search (needs, places))

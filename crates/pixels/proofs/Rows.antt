@@ -37,17 +37,18 @@ rows-more at s high x w lo n lo′ n′ r g f old new new′ u v t p q e =
     record {
       dots = λ i j h. q .places (place at s i j) ∙ rw (row-hit at s x w r i j h u, t j) (by i j h (cases-eq j r));
       others = λ k o.
-        let a = row-after r high s v in
-        q .places k ∙ rw (in-run-apart (place at s x r) w k at (at + s * high) (omega arith) (omega arith) o) (p .others k o);
-      len = q .len ∙ p .len }
+          let a = row-after r high s v in
+          q .places k ∙ rw (in-run-apart (place at s x r) w k at (at + s * high) (omega arith) (omega arith) o) (p .others k o);
+      len = q .len ∙ p .len;
+    }
   where
     by : (i j : ℕ) → i < s → (j ≡ r) ⊎ (j ≡ r → ⊥) →
         pick (eqb j r && in-run x w i) (f (place at s i j)) (getD new (place at s i j) 0)
         ≡ pick (in-run x w i && (eqb j r || in-run lo n j)) (g i j) (getD old (place at s i j) 0)
     by i j h (inl z) =
         elim (cases-bool (in-run x w i)) [
-          inl b ↦ let l = in-run-parts x w i b in rw (eq-eqb j r z, b, z) (e i (l .0) (l .1))
-        | inr b ↦ rw (eq-eqb j r z, b) (p .dots i j h ∙ rw b)
+          | inl b ↦ let l = in-run-parts x w i b in rw (eq-eqb j r z, b, z) (e i (l .0) (l .1))
+          | inr b ↦ rw (eq-eqb j r z, b) (p .dots i j h ∙ rw b)
         ]
     by i j h (inr z) = rw (ne-eqb j r z) (p .dots i j h)
 
@@ -62,16 +63,17 @@ rows-all at s high x y w h g g′ old new u v p e i j =
     inside : i < s → getD new (place at s i j) 0 ≡ pick (in-run x w i && in-run y h j) (g′ i j) (getD old (place at s i j) 0)
     inside l =
         elim (cases-bool (in-run x w i && in-run y h j)) [
-          inl b ↦
-            let c = and-parts (in-run x w i) (in-run y h j) b in
-            let a = in-run-parts x w i (c .0) in
-            let d = in-run-parts y h j (c .1) in
-            p .dots i j l ∙ rw b (e i j (a .0) (a .1) (d .0) (d .1))
-        | inr b ↦ p .dots i j l ∙ rw b
+          | inl b ↦
+              let c = and-parts (in-run x w i) (in-run y h j) b in
+              let a = in-run-parts x w i (c .0) in
+              let d = in-run-parts y h j (c .1) in
+              p .dots i j l ∙ rw b (e i j (a .0) (a .1) (d .0) (d .1))
+          | inr b ↦ p .dots i j l ∙ rw b
         ]
+
     out : (ltb i s && ltb j high) ≡ false → (in-run x w i && in-run y h j) ≡ false
     out b =
         elim (and-cases (ltb i s) (ltb j high) b) [
-          inl c ↦ and-left (in-run x w i) (in-run y h j) (in-run-above x w i (let d = ltb-false i s c in omega arith))
-        | inr c ↦ and-right (in-run x w i) (in-run y h j) (in-run-above y h j (let d = ltb-false j high c in omega arith))
+          | inl c ↦ and-left (in-run x w i) (in-run y h j) (in-run-above x w i (let d = ltb-false i s c in omega arith))
+          | inr c ↦ and-right (in-run x w i) (in-run y h j) (in-run-above y h j (let d = ltb-false j high c in omega arith))
         ]

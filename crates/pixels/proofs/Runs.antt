@@ -39,14 +39,18 @@ pub changed-part : (a n m : ℕ) (f : ℕ → ℕ) (xs ys : List ℕ) → a + n 
 changed-part a n m f xs ys h l e g =
     record {
       places = λ k. elim (cases-lt k a) [
-        inl p ↦ rw (in-run-below a n k p) (search (needs, places))
-      | inr p ↦ elim (cases-lt k (a + n)) [
-          inl q ↦ rw (in-run-yes a n k p q) (inside k p q)
-        | inr q ↦ rw (in-run-above a n k q) (search (needs, places)) ] ];
-      len = search (needs, places) }
+        | inl p ↦ rw (in-run-below a n k p) (search (needs, places))
+        | inr p ↦ elim (cases-lt k (a + n)) [
+          | inl q ↦ rw (in-run-yes a n k p q) (inside k p q)
+          | inr q ↦ rw (in-run-above a n k q) (search (needs, places))
+        ]
+      ];
+      len = search (needs, places);
+    }
   where
     read : (k : ℕ) → a ≤ k → k < a + n → getD (putMid a m xs ys) k 0 ≡ getD ys (k - a) 0
     read k p q = search (needs, places)
+
     inside : (k : ℕ) → a ≤ k → k < a + n → getD (putMid a m xs ys) k 0 ≡ f k
     inside k p q =
         let z : a + (k - a) ≡ k = omega arith in
@@ -60,10 +64,10 @@ row-after j r s h = omega (arith, mul-le (j + 1) s r s (omega arith) (omega arit
 pub row-hit : (at s x w r i j : ℕ) → i < s → x + w ≤ s → in-run (place at s x r) w (place at s i j) ≡ (eqb j r && in-run x w i)
 row-hit at s x w r i j h k =
     elim (cases-order j r) [
-      inl e ↦ rw (e, eq-eqb r r refl) (grind (arith, tells))
-    | inr o ↦ elim o [
-        inl l ↦ let a = row-after j r s l in in-run-below (place at s x r) w (place at s i j) (omega arith) ∙ sym (and-left _ _ (ne-eqb j r (λ q. omega arith)))
-      | inr l ↦ let a = row-after r j s l in in-run-above (place at s x r) w (place at s i j) (omega arith) ∙ sym (and-left _ _ (ne-eqb j r (λ q. omega arith)))
+      | inl e ↦ rw (e, eq-eqb r r refl) (grind (arith, tells))
+      | inr o ↦ elim o [
+        | inl l ↦ let a = row-after j r s l in in-run-below (place at s x r) w (place at s i j) (omega arith) ∙ sym (and-left _ _ (ne-eqb j r (λ q. omega arith)))
+        | inr l ↦ let a = row-after r j s l in in-run-above (place at s x r) w (place at s i j) (omega arith) ∙ sym (and-left _ _ (ne-eqb j r (λ q. omega arith)))
       ]
     ]
 

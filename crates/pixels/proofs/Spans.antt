@@ -27,13 +27,14 @@ put-painted p x y colours old new u v q =
     record {
       dots = rows-all (p .at) (p .wide) (p .high) x y (length colours) 1 (λ i j. getD colours (i - x) 0) (λ i j. getD colours (i - x) 0) old new u v rows (λ i j a b c d. refl);
       others = rows .others;
-      len = rows .len }
+      len = rows .len;
+    }
   where
     rows : Rows (p .at) (p .wide) (p .high) x (length colours) y 1 (λ i j. getD colours (i - x) 0) old new
     rows =
         rows-more (p .at) (p .wide) (p .high) x (length colours) y 0 y 1 y (λ i j. getD colours (i - x) 0) (λ k. getD colours (k - place (p .at) (p .wide) x y) 0) old old new u (omega arith) (one-row y)
-          (rows-none (p .at) (p .wide) (p .high) x (length colours) y (λ i j. getD colours (i - x) 0) old) q
-          (λ i a b. let e : place (p .at) (p .wide) i y - place (p .at) (p .wide) x y ≡ i - x = omega arith in rw e)
+        (rows-none (p .at) (p .wide) (p .high) x (length colours) y (λ i j. getD colours (i - x) 0) old) q
+        (λ i a b. let e : place (p .at) (p .wide) i y - place (p .at) (p .wide) x y ≡ i - x = omega arith in rw e)
 
 -- the same run, with other words for what it became
 changed-like : (lo n : ℕ) (f f′ : ℕ → ℕ) (old new : List ℕ) → ((k : ℕ) → lo ≤ k → k < lo + n → f k ≡ f′ k) → Changed lo n f old new → Changed lo n f′ old new
@@ -47,6 +48,6 @@ pub span-copied : (p : Picture) (x y w to : ℕ) (dots old new : List ℕ) → x
     Changed to w (λ k. dots-of dots (p .at) (p .wide) (p .high) (x + (k - to)) y) old new
 span-copied p x y w to dots old new u v =
     changed-like to w (λ k. getD dots (place (p .at) (p .wide) x y + (k - to)) 0) (λ k. dots-of dots (p .at) (p .wide) (p .high) (x + (k - to)) y) old new
-      (λ k a b.
-        let e : place (p .at) (p .wide) x y + (k - to) ≡ place (p .at) (p .wide) (x + (k - to)) y = omega arith in
-        rw e (sym (dot-inside dots (p .at) (p .wide) (p .high) (x + (k - to)) y (omega arith) (omega arith))))
+    (λ k a b.
+    let e : place (p .at) (p .wide) x y + (k - to) ≡ place (p .at) (p .wide) (x + (k - to)) y = omega arith in
+    rw e (sym (dot-inside dots (p .at) (p .wide) (p .high) (x + (k - to)) y (omega arith) (omega arith))))

@@ -7,6 +7,7 @@ use Prim.Native.Nat.{ℕ, _+_, _-_, _*_, _≤_, _<_}
 use lib.Dec.{leb, ltb}
 use lib.ListN.{length, getD}
 use Rattle.model.specs.Basics.{pick, in-box}
+use Rattle.pixels.specs.Runs.{run-fits}
 use Rattle.pixels.specs.declared.Picture.{Picture}
 use Rattle.pixels.specs.declared.Area.{Area}
 use Rattle.pixels.specs.declared.Span.{Span}
@@ -38,6 +39,14 @@ target-of s a b = record { x = a; y = b; wide = s .wide; high = s .high }
 -- the area is part of a picture that lies in the slice
 abbrev pub fits : Picture → Area → ℕ → Bool
 fits p a len = lies-in p len && has-area p a
+
+-- the same of the area and of the box of its size at a, b
+abbrev pub copy-fits : Picture → Area → ℕ → ℕ → ℕ → Bool
+copy-fits p s a b len = fits p s len && has-area p (target-of s a b)
+
+-- a span of a picture that lies in a slice of `len` dots, and room for it from `to` on in one of `room`
+abbrev pub out-fits : Picture → Span → ℕ → ℕ → ℕ → Bool
+out-fits p s len to room = fits p (area-of s) len && run-fits to (s .wide) room
 
 -- What paint makes of a picture's dots d, in the desk's own words: an area is one colour,
 abbrev pub filled : Area → ℕ → (ℕ → ℕ → ℕ) → ℕ → ℕ → ℕ

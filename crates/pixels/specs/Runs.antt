@@ -1,6 +1,6 @@
 -- Runs of elements that are written in a slice.
 use mathlib.Core.Path.{_≡_}
-use mathlib.Core.Bool.{Bool}
+use mathlib.Core.Bool.{Bool, _&&_}
 use mathlib.Core.List.{List}
 use Prim.Native.Nat.{ℕ, _+_}
 use lib.Dec.{leb}
@@ -15,3 +15,7 @@ pub record Changed (lo n : ℕ) (f : ℕ → ℕ) (old new : List ℕ) : Type 0 
 -- n elements from lo on are there in a slice of `len`
 abbrev pub run-fits : ℕ → ℕ → ℕ → Bool
 run-fits lo n len = leb (lo + n) len
+
+-- both runs are there
+abbrev pub shift-fits : ℕ → ℕ → ℕ → ℕ → Bool
+shift-fits from to n len = run-fits from n len && run-fits to n len

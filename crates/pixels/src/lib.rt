@@ -3,10 +3,10 @@
 ghost use mathlib.Core.Path.{_≡_};
 ghost use Prim.Native.Nat.{ℕ, _+_, _-_, _*_, _^_, _<_, _≤_};
 ghost use lib.ListN.{length, getD};
-ghost use mathlib.Core.Bool.{true, false, _&&_};
+ghost use mathlib.Core.Bool.{true, false};
 ghost use Rattle.std.specs.Numbers.{Checked};
-ghost use Rattle.pixels.specs.Runs.{Changed, run-fits};
-ghost use Rattle.pixels.specs.Pictures.{place, dots-of, lies-in, has-area, fits, area-of, target-of, Painted, filled, put-in, copied};
+ghost use Rattle.pixels.specs.Runs.{Changed, run-fits, shift-fits};
+ghost use Rattle.pixels.specs.Pictures.{place, dots-of, lies-in, has-area, fits, copy-fits, out-fits, area-of, target-of, Painted, filled, put-in, copied};
 ghost use Rattle.pixels.specs.Colours.{colour-at, colours-in, put-fits};
 
 // A picture: where its first dot lies in the slice, and how many dots it has across and down. Its rows follow one another with no gap.
@@ -39,7 +39,12 @@ impl Span {
     fn area(self) -> Area
         ensures { λ r. ⌜ r ≡ area-of self ⌝ }
     {
-        Area { x: self.x, y: self.y, wide: self.wide, high: 1 }
+        Area {
+            x: self.x,
+            y: self.y,
+            wide: self.wide,
+            high: 1,
+        }
     }
 }
 
@@ -70,7 +75,10 @@ impl Picture {
     fn has(self, area: Area) -> bool
         ensures { λ r. ⌜ r ≡ has-area self area ⌝ }
     {
-        area.x <= self.wide && area.wide <= self.wide - area.x && area.y <= self.high && area.high <= self.high - area.y
+        area.x <= self.wide
+            && area.wide <= self.wide - area.x
+            && area.y <= self.high
+            && area.high <= self.high - area.y
     }
 
     // Whether the area is part of the picture, and the picture lies in a slice of `len` dots.
@@ -140,7 +148,8 @@ fn fill_row(pictures: &mut [u32], picture: Picture, area: Area, r: usize, colour
     requires { ⌜ fits picture area (length (now pictures)) ≡ true ⌝ ∗ ⌜ r < area .high ⌝ }
     ensures { λ _. ⌜ Changed (place (picture .at) (picture .wide) (area .x) (area .y + r)) (area .wide) (λ _. colour) (now (pictures .entry)) (now (pictures .exit)) ⌝ }
 {
-    fill_run(pictures, picture.place(area.x, area.y + r), area.wide, colour);
+    let start = picture.place(area.x, area.y + r);
+    fill_run(pictures, start, area.wide, colour);
 }
 
 // Each row of the area is the colour.
@@ -173,7 +182,9 @@ fn copy_row(pictures: &mut [u32], picture: Picture, area: Area, a: usize, b: usi
     requires row { ⌜ r < area .high ⌝ }
     ensures { λ _. ⌜ Changed (place (picture .at) (picture .wide) a (b + r)) (area .wide) (λ k. getD (now (pictures .entry)) (place (picture .at) (picture .wide) (area .x) (area .y + r) + (k - place (picture .at) (picture .wide) a (b + r))) 0) (now (pictures .entry)) (now (pictures .exit)) ⌝ }
 {
-    copy_run(pictures, picture.place(area.x, area.y + r), picture.place(a, b + r), area.wide);
+    let from = picture.place(area.x, area.y + r);
+    let to = picture.place(a, b + r);
+    copy_run(pictures, from, to, area.wide);
 }
 
 // The area is copied to a, b, its first row first: right where that is not below the area, since no row is then written before it was read.
@@ -202,7 +213,7 @@ fn copy_down(pictures: &mut [u32], picture: Picture, area: Area, a: usize, b: us
 
 // The box of the area's size at a, b becomes what the area was, also where the two overlap.
 pub fn copy(pictures: &mut [u32], picture: Picture, area: Area, a: usize, b: usize) -> bool
-    ensures answer { λ r. ⌜ r ≡ (fits picture area (length (now (pictures .entry))) && has-area picture (target-of area a b)) ⌝ }
+    ensures answer { λ r. ⌜ r ≡ copy-fits picture area a b (length (now (pictures .entry))) ⌝ }
     ensures done { λ r. ⌜ (r ≡ true → Painted picture (copied area a b) (now (pictures .entry)) (now (pictures .exit))) ⌝ }
     ensures refused { λ r. ⌜ (r ≡ false → now (pictures .exit) ≡ now (pictures .entry)) ⌝ }
 {
@@ -219,7 +230,7 @@ pub fn copy(pictures: &mut [u32], picture: Picture, area: Area, a: usize, b: usi
 
 // The run of dots at `to` becomes what the run at `from` was, also where the two overlap: pictures move in the slice.
 pub fn shift(dots: &mut [u32], from: usize, to: usize, count: usize) -> bool
-    ensures answer { λ r. ⌜ r ≡ (run-fits from count (length (now (dots .entry))) && run-fits to count (length (now (dots .entry)))) ⌝ }
+    ensures answer { λ r. ⌜ r ≡ shift-fits from to count (length (now (dots .entry))) ⌝ }
     ensures done { λ r. ⌜ (r ≡ true → Changed to count (λ k. getD (now (dots .entry)) (from + (k - to)) 0) (now (dots .entry)) (now (dots .exit))) ⌝ }
     ensures refused { λ r. ⌜ (r ≡ false → now (dots .exit) ≡ now (dots .entry)) ⌝ }
 {
@@ -255,7 +266,10 @@ fn colour_at(call: &[u8], k: usize) -> u32
     requires { ⌜ k + 4 ≤ length (now call) ⌝ }
     ensures { λ r. ⌜ r ≡ colour-at (now (call .entry)) k ⌝ }
 {
-    call[k] as u32 + 256 * call[k + 1] as u32 + 65536 * call[k + 2] as u32 + 16777216 * call[k + 3] as u32
+    call[k] as u32
+        + 256 * call[k + 1] as u32
+        + 65536 * call[k + 2] as u32
+        + 16777216 * call[k + 3] as u32
 }
 
 // The row is the colours of the call from byte `from` on.
@@ -295,7 +309,8 @@ fn put_span(pictures: &mut [u32], picture: Picture, span: Span, call: &[u8], fro
     requires { ⌜ put-fits picture span (length (now pictures)) from (length (now call)) ≡ true ⌝ }
     ensures { λ _. ⌜ Painted picture (put-in (span .x) (span .y) (colours-in (now (call .entry)) from (span .wide))) (now (pictures .entry)) (now (pictures .exit)) ⌝ }
 {
-    put_run(pictures, picture.place(span.x, span.y), span.wide, call, from);
+    let start = picture.place(span.x, span.y);
+    put_run(pictures, start, span.wide, call, from);
 }
 
 // The dots of the span are the colours of the call from byte `from` on, four bytes each.
@@ -325,12 +340,13 @@ fn copy_span(pictures: &[u32], picture: Picture, span: Span, out: &mut [u32], to
     requires room { ⌜ to + span .wide ≤ length (now out) ⌝ }
     ensures { λ _. ⌜ Changed to (span .wide) (λ k. dots-of (now (pictures .entry)) (picture .at) (picture .wide) (picture .high) (span .x + (k - to)) (span .y)) (now (out .entry)) (now (out .exit)) ⌝ }
 {
-    copy_across(pictures, picture.place(span.x, span.y), out, to, span.wide);
+    let start = picture.place(span.x, span.y);
+    copy_across(pictures, start, out, to, span.wide);
 }
 
 // The dots of the span are written into another slice, from `to` on.
 pub fn copy_out(pictures: &[u32], picture: Picture, span: Span, out: &mut [u32], to: usize) -> bool
-    ensures answer { λ r. ⌜ r ≡ (fits picture (area-of span) (length (now (pictures .entry))) && run-fits to (span .wide) (length (now (out .entry)))) ⌝ }
+    ensures answer { λ r. ⌜ r ≡ out-fits picture span (length (now (pictures .entry))) to (length (now (out .entry))) ⌝ }
     ensures done { λ r. ⌜ (r ≡ true → Changed to (span .wide) (λ k. dots-of (now (pictures .entry)) (picture .at) (picture .wide) (picture .high) (span .x + (k - to)) (span .y)) (now (out .entry)) (now (out .exit))) ⌝ }
     ensures refused { λ r. ⌜ (r ≡ false → now (out .exit) ≡ now (out .entry)) ⌝ }
 {

@@ -10,4 +10,4 @@ use Rattle.pixels.proofs.copy_across.Needs as need
 pub returns : need.returns
 returns c =
     changed-part (c .args .to) (c .args .count) _ (λ k. getD (c .args .dots .now) (c .args .from + (k - c .args .to)) 0) (c .args .out .now) (c .copy-from-slice .last .self) (omega arith) (search (needs, places)) (omega arith)
-      (λ k h. search (needs, places))
+    (λ k h. search (needs, places))

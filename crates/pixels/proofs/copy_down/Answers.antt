@@ -11,7 +11,7 @@ pub loop-r-again : need.loop-r-again
 loop-r-again c =
     let h = fits-parts (c .args .picture) (c .args .area) (length (c .args .pictures .now)) (c .pre .source) in
     copied-more (c .args .picture .at) (c .args .picture .wide) (c .args .picture .high) (c .args .area .x) (c .args .area .y) (c .args .a) (c .args .b) (c .args .area .wide) (c .args .b + c .loop-r .r) (c .args .area .high - c .loop-r .r) (c .args .b + (c .loop-r .r - 1)) (c .args .area .high - (c .loop-r .r - 1)) (c .loop-r .r - 1) (c .args .pictures .now) (c .loop-r .pictures) (c .copy-row .last .pictures)
-      (omega arith) (omega arith) (omega arith) (in-run-below (c .args .b + c .loop-r .r) (c .args .area .high - c .loop-r .r) (c .args .area .y + (c .loop-r .r - 1)) (omega arith)) (run-before (c .args .b) (c .loop-r .r) (c .args .area .high) (omega arith) (omega arith)) (c .loop-r .inv) (c .copy-row .ensures)
+    (omega arith) (omega arith) (omega arith) (in-run-below (c .args .b + c .loop-r .r) (c .args .area .high - c .loop-r .r) (c .args .area .y + (c .loop-r .r - 1)) (omega arith)) (run-before (c .args .b) (c .loop-r .r) (c .args .area .high) (omega arith) (omega arith)) (c .loop-r .inv) (c .copy-row .ensures)
 
 pub returns : need.returns
 returns c =
@@ -20,4 +20,4 @@ returns c =
     let lo : c .args .b + 0 ≡ c .args .b = omega arith in
     let n : c .args .area .high - 0 ≡ c .args .area .high = omega arith in
     copied-all (c .args .picture) (c .args .area) (c .args .a) (c .args .b) (c .args .pictures .now) (c .loop-r .pictures)
-      (omega arith) (omega arith) (omega arith) (omega arith) (rw (e, lo, n) at (c .loop-r .inv))
+    (omega arith) (omega arith) (omega arith) (omega arith) (rw (e, lo, n) at (c .loop-r .inv))
