@@ -1,13 +1,13 @@
 -- A box that is copied within its picture, row by row, in either order of the rows.
-use mathlib.Core.Path.{_≡_, refl, sym, ap, _∙_}
-use mathlib.Core.Bool.{Bool, true, false, _&&_, _||_}
+use mathlib.Core.Path.{_≡_, sym, _∙_}
+use mathlib.Core.Bool.{false, _||_}
 use mathlib.Core.List.{List}
-use Prim.Native.Nat.{ℕ, _+_, _-_, _*_, _≤_, _<_}
+use Prim.Native.Nat.{ℕ, _+_, _-_, _≤_, _<_}
 use native.Mathlib.Omega.{arith}
-use lib.Dec.{leb, ltb, eqb}
-use lib.ListN.{length, getD}
-use Rattle.std.proofs.shelf.Tests.{and-right, and-from, lt-ltb}
-use Rattle.model.specs.Basics.{pick, in-run}
+use lib.Dec.{eqb}
+use lib.ListN.{getD}
+use Rattle.std.proofs.shelf.Tests.{and-right}
+use Rattle.model.specs.Basics.{in-run}
 use Rattle.pixels.specs.declared.Picture.{Picture}
 use Rattle.pixels.specs.declared.Area.{Area}
 use Rattle.pixels.specs.Runs.{Changed}

@@ -1,8 +1,8 @@
 -- What callers conclude: when a box fits, and what became of the pictures that were painted, left alone or moved.
-use mathlib.Core.Path.{_≡_, refl, sym, ap, _∙_, fun-ext}
-use mathlib.Core.Bool.{Bool, true, false, _&&_}
+use mathlib.Core.Path.{_≡_, sym, _∙_, fun-ext}
+use mathlib.Core.Bool.{true, _&&_}
 use mathlib.Core.Logic.{_⊎_, inl, inr}
-use mathlib.Core.List.{List, _++_}
+use mathlib.Core.List.{List, _++_, map}
 use Prim.Native.Nat.{ℕ, _+_, _-_, _*_, _≤_, _<_}
 use native.Mathlib.Omega.{arith}
 use lib.Dec.{leb, ltb}
@@ -10,6 +10,7 @@ use lib.ListN.{length, getD, take, drop}
 use lib.Seq.{ext-getD}
 use borrow.Author.Needs.{needs}
 use Rattle.std.proofs.shelf.Lists.{places}
+use Rattle.std.specs.Iters.{counting}
 use Rattle.std.proofs.shelf.Counted.{length-map-counting, getD-map-counting}
 use Rattle.std.proofs.shelf.Bits.{mul-add-lt}
 use Rattle.std.proofs.shelf.Tests.{and-parts, and-from, leb-true, le-leb, cases-bool, cases-lt, ltb-true, lt-ltb, le-ltb, and-left, and-right}
@@ -142,6 +143,18 @@ changed-list lo n f old new ys h l g q = ext-getD 0 new (take lo old ++ (ys ++ d
         rw (in-run-yes lo n k c d) (sym (t ∙ z))
     by k b (inr c) (inr d) = rw (in-run-above lo n k d) (search (needs, places))
 
+-- the same of a span that was written elsewhere
+pub out-list : (p : Picture) (s : Span) (to : ℕ) (dots old new : List ℕ) → to + s .wide ≤ length old →
+    Changed to (s .wide) (λ k. dots-of dots (p .at) (p .wide) (p .high) (s .x + (k - to)) (s .y)) old new →
+    new ≡ take to old ++ (map (λ k. dots-of dots (p .at) (p .wide) (p .high) (s .x + k) (s .y)) (counting 0 (s .wide)) ++ drop (to + s .wide) old)
+out-list p s to dots old new h q =
+    changed-list to (s .wide) (λ k. dots-of dots (p .at) (p .wide) (p .high) (s .x + (k - to)) (s .y)) old new (map row (counting 0 (s .wide))) h (length-map-counting row 0 (s .wide))
+    (λ k l. let e : (to + k) - to ≡ k = omega arith in rw e (getD-map-counting row 0 (s .wide) k k 0 l (omega arith))) q
+  where
+    row : ℕ → ℕ
+    row k = dots-of dots (p .at) (p .wide) (p .high) (s .x + k) (s .y)
+
+-- how many colours there are, and which
 pub colours-length : (bytes : List ℕ) (from count : ℕ) → length (colours-in bytes from count) ≡ count
 unfolding colours-in
 colours-length bytes from count = length-map-counting (λ k. colour-at bytes (from + 4 * k)) 0 count

@@ -1,4 +1,4 @@
-mod Runs
+pub mod Runs
 mod Rows
 mod Copies
 mod Spans

@@ -1,13 +1,13 @@
 -- A box of a picture that is painted row by row.
-use mathlib.Core.Path.{_≡_, refl, sym, ap, _∙_}
-use mathlib.Core.Bool.{Bool, true, false, _&&_, _||_}
+use mathlib.Core.Path.{_≡_, refl, _∙_}
+use mathlib.Core.Bool.{Bool, false, _&&_, _||_}
 use mathlib.Core.Logic.{_⊎_, inl, inr}
 use mathlib.Core.List.{List}
 use Prim.Native.Nat.{ℕ, _+_, _-_, _*_, _≤_, _<_}
 use native.Mathlib.Omega.{arith}
-use lib.Dec.{leb, ltb, eqb}
+use lib.Dec.{ltb, eqb}
 use lib.ListN.{length, getD}
-use Rattle.std.proofs.shelf.Tests.{cases-eq, cases-bool, cases-lt, eq-eqb, ne-eqb, and-left, and-right, lt-ltb, le-ltb, and-parts, ltb-true, and-cases, ltb-false}
+use Rattle.std.proofs.shelf.Tests.{cases-eq, cases-bool, eq-eqb, ne-eqb, and-left, and-right, and-parts, ltb-true, and-cases, ltb-false}
 use Rattle.std.proofs.shelf.Ways.{tells}
 use Rattle.model.specs.Basics.{pick, in-run, in-box}
 use Rattle.pixels.specs.Runs.{Changed}

@@ -1,6 +1,6 @@
 -- A run of elements in a slice, seen from one place.
-use mathlib.Core.Path.{_≡_, refl, sym, ap, _∙_}
-use mathlib.Core.Bool.{Bool, true, false, _&&_, _||_}
+use mathlib.Core.Path.{_≡_, refl, sym, _∙_}
+use mathlib.Core.Bool.{true, false, _&&_, _||_}
 use mathlib.Core.Logic.{_⊎_, inl, inr}
 use mathlib.Core.List.{List}
 use Prim.Native.Nat.{ℕ, _+_, _-_, _*_, _≤_, _<_}
@@ -8,13 +8,13 @@ use native.Mathlib.Nat.{add-mul}
 use native.Mathlib.Omega.{arith}
 use borrow.Author.Needs.{needs}
 use borrow.Rule.Slice.PartMut.{putMid}
-use lib.Dec.{leb, ltb, eqb}
-use lib.ListN.{length, getD, replicate}
-use Rattle.std.proofs.shelf.Lists.{places, getD-replicate, length-replicate}
+use lib.Dec.{eqb}
+use lib.ListN.{length, getD}
+use Rattle.std.proofs.shelf.Lists.{places}
 use Rattle.std.proofs.shelf.Tests.{cases-lt, cases-order, eq-eqb, ne-eqb, and-left}
 use Rattle.std.proofs.shelf.Bits.{mul-le}
 use Rattle.std.proofs.shelf.Ways.{tells}
-use Rattle.model.specs.Basics.{pick, in-run}
+use Rattle.model.specs.Basics.{in-run}
 use Rattle.pixels.specs.Pictures.{place}
 use Rattle.pixels.specs.Runs.{Changed}
 

@@ -1,7 +1,7 @@
 // Pictures, all of them in one lent slice of dots: painting in one, making it blank, moving it in the slice, and reading it.
 // A request that does not fit is answered with false, and changes nothing.
 ghost use mathlib.Core.Path.{_≡_};
-ghost use Prim.Native.Nat.{ℕ, _+_, _-_, _*_, _^_, _<_, _≤_};
+ghost use Prim.Native.Nat.{_+_, _-_, _*_, _^_, _<_, _≤_};
 ghost use lib.ListN.{length, getD};
 ghost use mathlib.Core.Bool.{true, false};
 ghost use Rattle.std.specs.Numbers.{Checked};
@@ -365,8 +365,17 @@ mod tests {
     // A picture of 3 by 3 dots behind one dot of another: each box of 2 by 2 copied onto one that it overlaps.
     #[test]
     fn copies_overlap() -> Result<(), Fail> {
-        let picture = Picture { at: 1, wide: 3, high: 3 };
-        let corner = Area { x: 0, y: 0, wide: 2, high: 2 };
+        let picture = Picture {
+            at: 1,
+            wide: 3,
+            high: 3,
+        };
+        let corner = Area {
+            x: 0,
+            y: 0,
+            wide: 2,
+            high: 2,
+        };
         let mut dots: [u32; 10] = [9, 1, 2, 3, 4, 5, 6, 7, 8, 0];
         check(copy(&mut dots, picture, corner, 1, 1))?;
         check_eq(dots, [9, 1, 2, 3, 4, 1, 2, 7, 4, 5])?;
@@ -380,8 +389,16 @@ mod tests {
     // A row of colours from the bytes of a call, read back dot by dot and as a span.
     #[test]
     fn puts_a_row() -> Result<(), Fail> {
-        let picture = Picture { at: 2, wide: 2, high: 2 };
-        let span = Span { x: 0, y: 1, wide: 2 };
+        let picture = Picture {
+            at: 2,
+            wide: 2,
+            high: 2,
+        };
+        let span = Span {
+            x: 0,
+            y: 1,
+            wide: 2,
+        };
         let mut dots: [u32; 6] = [7; 6];
         let mut out: [u32; 3] = [0; 3];
         check(put(&mut dots, picture, span, &[0, 1, 2, 3, 4, 5, 0, 0, 1], 1))?;

@@ -1,8 +1,7 @@
 use borrow.Author.Needs.{needs}
-use mathlib.Core.Path.{_≡_, ap, _∙_}
 use native.Mathlib.Omega.{arith}
 use Prim.Native.Nat.{_+_, _-_}
-use lib.ListN.{length, getD, take, drop}
+use lib.ListN.{getD}
 use Rattle.std.proofs.shelf.Lists.{places}
 use Rattle.pixels.proofs.Runs.{changed-part}
 use Rattle.pixels.proofs.copy_across.Needs as need

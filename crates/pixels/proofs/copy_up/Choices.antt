@@ -1,4 +1,4 @@
-use Prim.Native.Nat.{_+_, _-_}
+use Prim.Native.Nat.{_-_}
 use Rattle.pixels.proofs.Rows.{Rows}
 use Rattle.pixels.proofs.Copies.{source}
 use Rattle.pixels.proofs.copy_up.Given as given

@@ -1,9 +1,9 @@
-use mathlib.Core.Path.{_≡_, refl, sym, _∙_}
+use mathlib.Core.Path.{_≡_, refl}
 use Prim.Native.Nat.{_+_}
 use native.Mathlib.Omega.{arith}
 use lib.ListN.{length}
 use Rattle.pixels.proofs.Runs.{run-next}
-use Rattle.pixels.proofs.Rows.{Rows, rows-more, rows-all}
+use Rattle.pixels.proofs.Rows.{rows-more, rows-all}
 use Rattle.pixels.proofs.Laws.{fits-parts}
 use Rattle.pixels.proofs.fill_rows.Needs as need
 

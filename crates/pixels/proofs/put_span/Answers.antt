@@ -1,11 +1,8 @@
-use borrow.Author.Needs.{needs}
-use mathlib.Core.Path.{_≡_}
-use mathlib.Core.Bool.{true}
 use native.Mathlib.Omega.{arith}
 use lib.ListN.{length}
 use Rattle.std.proofs.shelf.Tests.{and-parts}
 use Rattle.pixels.specs.Colours.{colours-in}
-use Rattle.pixels.specs.Pictures.{fits, area-of}
+use Rattle.pixels.specs.Pictures.{area-of}
 use Rattle.pixels.proofs.Laws.{fits-parts, colours-length}
 use Rattle.pixels.proofs.Spans.{put-painted}
 use Rattle.pixels.proofs.put_span.Needs as need
