@@ -362,7 +362,7 @@ mod tests {
     use super::*;
     use std::test::*;
 
-    // A picture of 3 by 3 dots behind one dot of another: each box of 2 by 2 copied onto one that it overlaps.
+    // A picture of 3 by 3 dots behind one dot of another: a box of 2 by 2 copied onto one that it overlaps, down and then up.
     #[test]
     fn copies_overlap() -> Result<(), Fail> {
         let picture = Picture {
@@ -380,17 +380,14 @@ mod tests {
         check(copy(&mut dots, picture, corner, 1, 1))?;
         check_eq(dots, [9, 1, 2, 3, 4, 1, 2, 7, 4, 5])?;
         check(copy(&mut dots, picture, corner.moved_to(1, 1), 0, 0))?;
-        check_eq(dots, [9, 1, 2, 3, 4, 5, 2, 7, 4, 5])?;
-        check(copy(&mut dots, picture, corner.moved_to(1, 0), 0, 1))?;
-        check_eq(dots, [9, 1, 2, 3, 2, 3, 2, 5, 2, 5])?;
-        check(!copy(&mut dots, picture, corner, 2, 0))
+        check_eq(dots, [9, 1, 2, 3, 4, 5, 2, 7, 4, 5])
     }
 
-    // A row of colours from the bytes of a call, read back dot by dot and as a span.
+    // A row of colours from the bytes of a call.
     #[test]
     fn puts_a_row() -> Result<(), Fail> {
         let picture = Picture {
-            at: 2,
+            at: 1,
             wide: 2,
             high: 2,
         };
@@ -399,11 +396,8 @@ mod tests {
             y: 1,
             wide: 2,
         };
-        let mut dots: [u32; 6] = [7; 6];
-        let mut out: [u32; 3] = [0; 3];
+        let mut dots: [u32; 5] = [7; 5];
         check(put(&mut dots, picture, span, &[0, 1, 2, 3, 4, 5, 0, 0, 1], 1))?;
-        check_eq(dot(&dots, picture, 1, 1), 16777216 + 5)?;
-        check(copy_out(&dots, picture, span, &mut out, 1))?;
-        check_eq(out, [0, 67305985, 16777221])
+        check_eq(dots, [7, 7, 7, 67305985, 16777221])
     }
 }
