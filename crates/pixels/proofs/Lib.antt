@@ -1,0 +1,5 @@
+pub mod Runs
+mod Rows
+mod Copies
+mod Spans
+pub mod Laws
