@@ -1,0 +1,59 @@
+-- What the values of the code mean: events and words of the desk, and what a reader found.
+use mathlib.Core.Bool.{Bool, true, false}
+use mathlib.Core.List.{List}
+use Prim.Native.Nat.{ℕ}
+use lib.ListN.{getD, drop}
+use Rattle.std.specs.declared.result.Result.{Result}
+use Rattle.std.specs.declared.result.Result.the-variants.{Ok, Err}
+use Rattle.model.specs.Desk as desk
+use Rattle.protocol.specs.Fields.{Found, numbers}
+use Rattle.protocol.specs.declared.types.Part.{Part}
+use Rattle.protocol.specs.declared.types.Fault.{Fault}
+use Rattle.protocol.specs.declared.types.Kinds.{Kinds}
+use Rattle.protocol.specs.declared.types.Event.{Event}
+use Rattle.protocol.specs.declared.types.Event.the-variants.{Make, Close, Move, Raise, Show, Fill, Put, Copy, Offer, Point, Press, Key, Paste}
+use Rattle.protocol.specs.declared.types.Word.{Word}
+use Rattle.protocol.specs.declared.types.Word.the-variants.{No, Done, Made, At, Pressed, Typed, Pasted}
+
+-- the numbers of w bytes each that a part points to
+abbrev pub part : ℕ → List ℕ → Part → List ℕ
+part w bs q = numbers w (q .count) (drop (q .from) bs)
+
+-- an event whose parts point into the bytes bs
+abbrev pub meaning : List ℕ → Event → desk.Event
+meaning bs (Make c x y w h) = desk.make c x y w h
+meaning bs (Close c n) = desk.close c n
+meaning bs (Move c n x y) = desk.move c n x y
+meaning bs (Raise c n) = desk.raise c n
+meaning bs (Show c n b) = desk.show c n b
+meaning bs (Fill c n x y w h q) = desk.fill c n x y w h q
+meaning bs (Put c n x y l) = desk.put c n x y (part 4 bs l)
+meaning bs (Copy c n x y w h a b) = desk.copy c n x y w h a b
+meaning bs (Offer c l) = desk.offer c (part 1 bs l)
+meaning bs (Point x y) = desk.point x y
+meaning bs (Press b) = desk.press b
+meaning bs (Key k) = desk.key k
+meaning bs Paste = desk.paste
+
+-- a word whose part points into the bytes bs
+abbrev pub word-meaning : List ℕ → Word → desk.Word
+word-meaning bs No = desk.no
+word-meaning bs Done = desk.done
+word-meaning bs (Made n) = desk.made n
+word-meaning bs (At n x y) = desk.at n x y
+word-meaning bs (Pressed n b) = desk.pressed n b
+word-meaning bs (Typed n k) = desk.typed n k
+word-meaning bs (Pasted n l) = desk.pasted n (part 1 bs l)
+
+-- which kinds of events are built
+abbrev pub built-of : Kinds → ℕ → Bool
+built-of k q = getD (k .built) q false
+
+-- what a reader of the bytes bs answers
+abbrev pub said : List ℕ → Result (Event × ℕ) Fault → Found desk.Event
+said bs (Ok r) = Ok (meaning bs (r .0), r .1)
+said bs (Err e) = Err (e .place)
+
+abbrev pub word-said : List ℕ → Result ((ℕ × Word) × ℕ) Fault → Found (ℕ × desk.Word)
+word-said bs (Ok r) = Ok ((r .0 .0, word-meaning bs (r .0 .1)), r .1)
+word-said bs (Err e) = Err (e .place)
