@@ -41,7 +41,7 @@ unfoldable pub unsigned : ℕ → ℤ → ℕ
 unsigned h z = mag (pick (ltZ z (pos 0)) (z +ℤ pos (h + h)) z)
 
 -- A mark is the byte 0 or 1.
-unfoldable pub marked : Bool → ℕ
+abbrev pub marked : Bool → ℕ
 marked false = 0
 marked true = 1
 
@@ -49,6 +49,8 @@ marked true = 1
 pub data Field : Type 0 where
   -- one byte, below the number of programs
   program : Field
+  -- one byte
+  byte : Field
   -- so many bytes, without sign
   plain : ℕ → Field
   -- two bytes with sign
@@ -65,6 +67,7 @@ pub data Field : Type 0 where
 -- what a field says
 abbrev pub Says : Field → Type 0
 Says program = ℕ
+Says byte = ℕ
 Says (plain w) = ℕ
 Says near = ℤ
 Says far = ℤ
@@ -75,6 +78,7 @@ Says (row w) = List ℕ
 -- its bytes
 abbrev pub spell : (f : Field) → Says f → List ℕ
 spell program v = v ∷ []
+spell byte v = v ∷ []
 spell (plain w) v = digits w v
 spell near v = digits 2 (unsigned 32768 v)
 spell far v = digits 4 (unsigned 2147483648 v)
@@ -93,6 +97,7 @@ there bs to r = pick (ltb (length bs) to) (Err (length bs)) r
 
 abbrev pub field : (f : Field) → ℕ → List ℕ → ℕ → ℕ → Found (Says f)
 field program p bs k o = there bs (k + (o + 1)) (pick (ltb (getD bs (k + o) 0) p) (Ok (getD bs (k + o) 0, o + 1)) (Err (k + o)))
+field byte p bs k o = there bs (k + (o + 1)) (Ok (getD bs (k + o) 0, o + 1))
 field (plain w) p bs k o = there bs (k + (o + w)) (Ok (number w (drop (k + o) bs), o + w))
 field near p bs k o = there bs (k + (o + 2)) (Ok (signed 32768 (number 2 (drop (k + o) bs)), o + 2))
 field far p bs k o = there bs (k + (o + 4)) (Ok (signed 2147483648 (number 4 (drop (k + o) bs)), o + 4))

@@ -10,7 +10,7 @@ use Rattle.std.specs.declared.result.Result.the-variants.{Ok, Err}
 use Rattle.model.specs.Basics.{pick}
 use Rattle.model.specs.Desk.{Event, make, close, move, raise, show, fill, put, copy, offer, point, press, key, paste}
 use Rattle.model.specs.Desk.{Word, no, done, made, at, pressed, typed, pasted}
-use Rattle.protocol.specs.Fields.{Field, program, plain, near, far, mark, only, row, From, Found, there, decode, spelled}
+use Rattle.protocol.specs.Fields.{Field, program, byte, plain, near, far, mark, only, row, From, Found, there, decode, spelled}
 
 -- the fields behind the kind's byte, and what is said by them
 pub record Format (A : Type 0) : Type 0 where
@@ -18,7 +18,7 @@ pub record Format (A : Type 0) : Type 0 where
   pub says : From fields A
 
 abbrev pub window : Field
-window = plain 1
+window = byte
 
 abbrev pub side : Field
 side = plain 2

@@ -4,6 +4,7 @@
 // read_word(words: &[u8], at: usize) -> Result<((u8, Word), usize), Fault>
 // write_event(e: Event, source: &[u8], out: &mut [u8], at: usize) -> Option<usize>
 // write_word(program: u8, w: Word, source: &[u8], out: &mut [u8], at: usize) -> Option<usize>
+mod events;
 mod numbers;
 mod types;
 
