@@ -177,3 +177,25 @@ pub fn read_key(call: &[u8], at: usize) -> Result<(Event, usize), Fault>
     need(call, at + 5)?;
     Ok((Event::Key { key: read_four(call, at + 1) }, at + 5))
 }
+
+// What follows the byte of a kind that there is.
+pub fn read_kind(kind: u8, call: &[u8], at: usize, programs: u8) -> Result<(Event, usize), Fault>
+    requires { ⌜ kind < 13 ⌝ ∗ ⌜ at < 2 ^ 32 ⌝ }
+    ensures { λ r. ⌜ said (now (call .entry)) r ≡ decode-kind kind programs (now (call .entry)) at ⌝ }
+{
+    match kind {
+        0 => read_make(call, at, programs),
+        1 => read_close(call, at, programs),
+        2 => read_move(call, at, programs),
+        3 => read_raise(call, at, programs),
+        4 => read_show(call, at, programs),
+        5 => read_fill(call, at, programs),
+        6 => read_put(call, at, programs),
+        7 => read_copy(call, at, programs),
+        8 => read_offer(call, at, programs),
+        9 => read_point(call, at),
+        10 => read_press(call, at),
+        11 => read_key(call, at),
+        _ => Ok((Event::Paste, at + 1)),
+    }
+}

@@ -1,9 +1,14 @@
 // Events and words in bytes: readers, writers, and what ties them.
 //
-// read(call: &[u8], at: usize, programs: u8, kinds: Kinds) -> Result<(Event, usize), Fault>
 // read_word(words: &[u8], at: usize) -> Result<((u8, Word), usize), Fault>
 // write_event(e: Event, source: &[u8], out: &mut [u8], at: usize) -> Option<usize>
 // write_word(program: u8, w: Word, source: &[u8], out: &mut [u8], at: usize) -> Option<usize>
+ghost use mathlib.Core.Path.{_≡_};
+ghost use mathlib.Core.Bool.{_&&_};
+ghost use lib.Dec.{ltb};
+ghost use lib.ListN.{length};
+ghost use Rattle.protocol.specs.Formats.{read-event};
+ghost use Rattle.protocol.specs.Meaning.{said, built-of};
 mod events;
 mod numbers;
 mod types;
@@ -14,3 +19,31 @@ pub use types::Kinds;
 pub use types::Part;
 pub use types::Word;
 
+// Calls are shorter than this: a longer one is refused at the last byte that a call may have.
+const CALL_END: usize = 4294967296;
+
+impl Kinds {
+    // Whether there is such a kind, and it is built.
+    pub fn has(self, kind: u8) -> bool
+        ensures { λ r. ⌜ r ≡ (ltb kind 13 && built-of self kind) ⌝ }
+    {
+        kind < 13 && self.built[kind as usize]
+    }
+}
+
+// The event at the byte `at` of a call and where it ends, or the first byte in fault.
+pub fn read(call: &[u8], at: usize, programs: u8, kinds: Kinds) -> Result<(Event, usize), Fault>
+    ensures { λ r. ⌜ said (now (call .entry)) r ≡ read-event (built-of kinds) programs (now (call .entry)) at ⌝ }
+{
+    if call.len() >= CALL_END {
+        return Err(Fault { place: CALL_END - 1 });
+    }
+    if at >= call.len() {
+        return Err(Fault { place: call.len() });
+    }
+    let kind = call[at];
+    if !kinds.has(kind) {
+        return Err(Fault { place: at });
+    }
+    events::read_kind(kind, call, at, programs)
+}
