@@ -117,3 +117,7 @@ told c (Err e) = Err e
 abbrev pub decode-word : List ℕ → ℕ → Found (ℕ × Word)
 decode-word bs k =
     there bs (k + 2) (pick (ltb (getD bs (k + 1) 0) 7) (told (getD bs k 0) (decode-word-kind (getD bs (k + 1) 0) bs k)) (Err (k + 1)))
+
+-- the same of a row that is shorter than a call may be
+abbrev pub read-told : List ℕ → ℕ → Found (ℕ × Word)
+read-told bs k = pick (leb 4294967296 (length bs)) (Err 4294967295) (decode-word bs k)

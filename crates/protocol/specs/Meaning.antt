@@ -54,6 +54,11 @@ abbrev pub said : List ℕ → Result (Event × ℕ) Fault → Found desk.Event
 said bs (Ok r) = Ok (meaning bs (r .0), r .1)
 said bs (Err e) = Err (e .place)
 
-abbrev pub word-said : List ℕ → Result ((ℕ × Word) × ℕ) Fault → Found (ℕ × desk.Word)
-word-said bs (Ok r) = Ok ((r .0 .0, word-meaning bs (r .0 .1)), r .1)
+abbrev pub word-said : List ℕ → Result (Word × ℕ) Fault → Found desk.Word
+word-said bs (Ok r) = Ok (word-meaning bs (r .0), r .1)
 word-said bs (Err e) = Err (e .place)
+
+-- and with the program that is told
+abbrev pub told-said : List ℕ → Result ((ℕ × Word) × ℕ) Fault → Found (ℕ × desk.Word)
+told-said bs (Ok r) = Ok ((r .0 .0, word-meaning bs (r .0 .1)), r .1)
+told-said bs (Err e) = Err (e .place)
