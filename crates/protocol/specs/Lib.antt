@@ -1,3 +1,4 @@
+pub mod Added
 pub mod Fields
 pub mod Formats
 pub mod Meaning

@@ -10,6 +10,7 @@ ghost use Rattle.protocol.specs.Formats.{read-event, read-told};
 ghost use Rattle.protocol.specs.Meaning.{said, told-said, built-of};
 mod events;
 mod numbers;
+mod push;
 mod told;
 mod types;
 

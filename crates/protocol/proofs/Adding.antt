@@ -1,0 +1,40 @@
+-- One byte added, and one row of bytes after another.
+use mathlib.Core.Path.{_≡_, refl, sym, ap, subst, _∙_}
+use mathlib.Core.List.{List, [], _∷_, _++_}
+use Prim.Native.Nat.{ℕ, _+_, _-_, _≤_, _<_}
+use native.Mathlib.Omega.{arith}
+use lib.ListN.{length, take, drop, set}
+use Rattle.std.proofs.shelf.Lists.{append-assoc, append-nil, length-append, drop-drop, drop-set-lt, take-more-set}
+use Rattle.std.proofs.shelf.Parts.{take-putMid, drop-putMid}
+use borrow.Rule.Slice.PartMut.{putMid}
+use Rattle.protocol.specs.Added.{Added}
+
+pub added-one : (at b : ℕ) (xs : List ℕ) → at < length xs → Added at (at + 1) (b ∷ []) xs (set xs at b)
+added-one at b xs h = record { ends = refl; front = take-more-set xs at b h; rest = drop-set-lt (at + 1) xs at b (omega arith) }
+
+pub added-then : (at mid to : ℕ) (bs cs x y z : List ℕ) → Added at mid bs x y → Added mid to cs y z → Added at to (bs ++ cs) x z
+added-then at mid to bs cs x y z p q =
+    record {
+      ends = simp length-append (omega (arith, p .ends, q .ends));
+      front = q .front ∙ ap (λ t. t ++ cs) (p .front) ∙ append-assoc (take at x) bs cs;
+      rest = q .rest ∙ further }
+  where
+    further : drop to y ≡ drop to x
+    further = rw (q .ends) (sym (drop-drop (length cs) mid y) ∙ ap (drop (length cs)) (p .rest) ∙ drop-drop (length cs) mid x)
+
+pub added-last : (at to : ℕ) (bs x y : List ℕ) → Added at to bs x y → Added at to (bs ++ []) x y
+added-last at to bs x y p = let P : List ℕ → Type 0 = λ t. Added at to t x y in subst P (sym (append-nil bs)) p
+
+-- the same bytes, written another way
+pub added-as : (at to : ℕ) (bs cs x y : List ℕ) → bs ≡ cs → Added at to bs x y → Added at to cs x y
+added-as at to bs cs x y e p = let P : List ℕ → Type 0 = λ t. Added at to t x y in subst P e p
+
+-- a part of the row is written whole: zs is what it holds then
+pub added-part : (at size n : ℕ) (old ys zs : List ℕ) → n ≡ size → length ys ≡ size → at + size ≤ length old → zs ≡ ys → Added at (at + size) ys old (putMid at n old zs)
+added-part at size n old ys zs e l h z =
+    let P : List ℕ → Type 0 = λ t. Added at (at + size) ys old (putMid at n old t) in
+    subst P (sym z)
+      (record {
+        ends = omega arith;
+        front = take-putMid at n old ys (at + size) (omega arith) (omega arith);
+        rest = drop-putMid at n old ys (at + size) (omega arith) (omega arith) (omega arith) })
