@@ -1,3 +1,4 @@
 mod Digits
 mod ByKind
 mod Adding
+mod Rows

@@ -11,6 +11,10 @@ use Rattle.std.specs.declared.result.Result.{Result}
 use Rattle.std.specs.declared.result.Result.the-variants.{Ok, Err}
 use Rattle.model.specs.Basics.{pick}
 
+-- a row of bytes
+abbrev pub Bytes : List ℕ → Type 0
+Bytes xs = (i : ℕ) → getD xs i 0 < 256
+
 -- Numbers in bytes, the low byte first.
 
 -- the number in the first w bytes of a row

@@ -4,7 +4,10 @@ ghost use mathlib.Core.List.{[], _∷_, _++_};
 ghost use Prim.Native.Nat.{ℕ, _+_, _*_, _≤_, _<_};
 ghost use lib.ListN.{length, take, drop};
 ghost use Rattle.protocol.specs.Added.{Added};
-ghost use Rattle.protocol.specs.Fields.{digits, numbers, all-digits, unsigned, marked};
+ghost use Rattle.protocol.specs.Fields.{digits, unsigned, marked, spell};
+ghost use Rattle.protocol.specs.Fields.{row as wide};
+ghost use Rattle.protocol.specs.Meaning.{part};
+use crate::types::Part;
 
 pub fn push(out: &mut [u8], at: usize, b: u8) -> usize
     requires { ⌜ at < length (now out) ⌝ }
@@ -73,12 +76,22 @@ pub fn push_mark(out: &mut [u8], at: usize, b: bool) -> usize
     push(out, at, b as u8)
 }
 
-// The bytes from `from` up to `to` of a source.
-pub fn push_part(out: &mut [u8], at: usize, source: &[u8], from: usize, size: usize) -> usize
+// So many bytes of a source, from the byte `from` on.
+fn push_part(out: &mut [u8], at: usize, source: &[u8], from: usize, size: usize) -> usize
     requires { ⌜ from + size ≤ length (now source) ⌝ ∗ ⌜ at + size ≤ length (now out) ⌝ }
     ensures added { λ r. ⌜ Added at r (take size (drop from (now (source .entry)))) (now (out .entry)) (now (out .exit)) ⌝ }
     ensures to { λ r. ⌜ r ≡ at + size ⌝ }
 {
     out[at..at + size].copy_from_slice(&source[from..from + size]);
     at + size
+}
+
+// A row of a source: how many elements it has, and then their bytes, `size` in all, of whatever width the elements are.
+pub fn push_row(out: &mut [u8], at: usize, source: &[u8], row: Part, size: usize) -> usize
+    requires { ⌜ row .from + size ≤ length (now source) ⌝ ∗ ⌜ at + (2 + size) ≤ length (now out) ⌝ }
+    ensures added { λ r. ⌜ ((w : ℕ) → size ≡ w * row .count → Added at r (spell (wide w) (part w (now (source .entry)) row)) (now (out .entry)) (now (out .exit))) ⌝ }
+    ensures to { λ r. ⌜ r ≡ at + (2 + size) ⌝ }
+{
+    let at = push_two(out, at, row.count);
+    push_part(out, at, source, row.from, size)
 }
