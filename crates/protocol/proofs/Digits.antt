@@ -48,14 +48,12 @@ signed-high h n z l e = rw (le-ltb n h l) e
 
 -- digits of two and of four bytes
 pub digits-two : (v : ℕ) → v < 65536 → v % 256 ∷ (v / 256) ∷ [] ≡ digits 2 v
-unfolding digits
 digits-two v h = ap (λ t. v % 256 ∷ t ∷ []) (omega arith)
 
 low-byte : (a q b : ℕ) → a ≡ 256 * q + b → b % 256 ≡ a % 256
 low-byte a q b e = omega arith
 
 pub digits-four : (v : ℕ) → digits 2 (v % 65536) ++ digits 2 (v / 65536) ≡ digits 4 v
-unfolding digits
 digits-four v =
     let c : v / 256 / 256 ≡ v / 65536 = div-div-eq-div-mul v 256 256 in
     let b : v % 65536 / 256 % 256 ≡ v / 256 % 256 = low-byte (v / 256) (v / 65536) (v % 65536 / 256) (omega (arith, c)) in

@@ -16,13 +16,12 @@ pub bytes-tail : (x : ℕ) (xs : List ℕ) → Bytes (x ∷ xs) → Bytes xs
 bytes-tail x xs b i = b (suc i)
 
 pub length-digits : (w v : ℕ) → length (digits w v) ≡ w
-unfolding digits
 length-digits zero v = refl
 length-digits (suc w) v = ap suc (length-digits w (v / 256))
 
 -- what is spelled is read
 pub number-digits : (w v : ℕ) (t : List ℕ) → v < 256 ^ w → number w (digits w v ++ t) ≡ v
-unfolding number digits
+unfolding number
 number-digits zero v t h = omega arith
 number-digits (suc w) v t h =
     let l : v / 256 < 256 ^ w = omega (arith, pow-suc 256 w) in
@@ -31,7 +30,7 @@ number-digits (suc w) v t h =
 
 -- what is read is spelled so
 pub digits-number : (w : ℕ) (xs : List ℕ) → w ≤ length xs → Bytes xs → digits w (number w xs) ≡ take w xs
-unfolding number digits
+unfolding number
 digits-number zero xs h b = refl
 digits-number (suc w) [] h b = absurd (let z : ⊥ = omega arith in z)
 digits-number (suc w) (x ∷ xs) h b =
@@ -91,3 +90,8 @@ all-digits-numbers w (suc n) xs h b =
     let e : w * suc n ≡ w + w * n = omega arith in
     let l : w * n ≤ length (drop w xs) = simp length-drop (omega arith) in
     rw (e, take-add w (w * n) xs, digits-number w xs (omega arith) b, all-digits-numbers w n (drop w xs) l (bytes-drop w xs b))
+
+-- how many bytes the elements of a row have, with nothing behind them
+pub length-row : (w n : ℕ) (xs : List ℕ) → length (all-digits w (numbers w n xs) ++ []) ≡ w * n
+length-row w n xs =
+    simp length-append (omega (arith, length-all-digits w (numbers w n xs), ap (λ m. w * m) (length-numbers w n xs)))

@@ -24,7 +24,7 @@ number (suc w) [] = 0
 number (suc w) (x ∷ xs) = x + 256 * number w xs
 
 -- a number as w bytes
-unfoldable pub digits : ℕ → ℕ → List ℕ
+abbrev pub digits : ℕ → ℕ → List ℕ
 digits zero v = []
 digits (suc w) v = v % 256 ∷ digits w (v / 256)
 

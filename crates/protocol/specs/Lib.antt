@@ -2,3 +2,4 @@ pub mod Added
 pub mod Fields
 pub mod Formats
 pub mod Meaning
+pub mod Laws

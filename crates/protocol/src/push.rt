@@ -2,12 +2,20 @@
 ghost use mathlib.Core.Path.{_≡_};
 ghost use mathlib.Core.List.{[], _∷_, _++_};
 ghost use Prim.Native.Nat.{ℕ, _+_, _*_, _≤_, _<_};
+ghost use lib.Dec.{leb};
 ghost use lib.ListN.{length, take, drop};
 ghost use Rattle.protocol.specs.Added.{Added};
 ghost use Rattle.protocol.specs.Fields.{digits, unsigned, marked, spell};
 ghost use Rattle.protocol.specs.Fields.{row as wide};
 ghost use Rattle.protocol.specs.Meaning.{part};
 use crate::types::Part;
+
+// Whether `size` bytes from the byte `at` on lie in a row of so many.
+pub fn room(total: usize, at: usize, size: usize) -> bool
+    ensures { λ r. ⌜ r ≡ leb (at + size) total ⌝ }
+{
+    at <= total && total - at >= size
+}
 
 pub fn push(out: &mut [u8], at: usize, b: u8) -> usize
     requires { ⌜ at < length (now out) ⌝ }
