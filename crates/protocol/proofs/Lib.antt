@@ -1,4 +1,7 @@
-mod Digits
-mod ByKind
 mod Adding
+mod ByKind
+mod Digits
 mod Rows
+mod Signs
+mod Tests
+mod FieldLaws
