@@ -39,6 +39,23 @@ refused z d (press b) t = absurd (both-ways true t refl)
 refused z d (key k) t = absurd (both-ways true t refl)
 refused z d paste t = absurd (both-ways true t refl)
 
+-- and is answered no
+pub refused-told : (z : Sizes) (d : Desk) (e : Event) → taken z d e ≡ false → does z d e .1 ≡ sender e
+unfolding does taken sender
+refused-told z d (make c x y w h) t = rw t
+refused-told z d (close c n) t = rw t
+refused-told z d (move c n x y) t = rw t
+refused-told z d (raise c n) t = rw t
+refused-told z d (show c n b) t = rw t
+refused-told z d (fill c n x y w h q) t = rw t
+refused-told z d (put c n x y l) t = rw t
+refused-told z d (copy c n x y w h a b) t = rw t
+refused-told z d (offer c l) t = rw t
+refused-told z d (point x y) t = absurd (both-ways true t refl)
+refused-told z d (press b) t = absurd (both-ways true t refl)
+refused-told z d (key k) t = absurd (both-ways true t refl)
+refused-told z d paste t = absurd (both-ways true t refl)
+
 -- the same window in front, and its dot there the same
 pub same-dot : (d d′ : Desk) (i j : ℕ) → front-at d i j ≡ front-at d′ i j → ((n : ℕ) → front-at d i j ≡ suc n → seen-of (window d′ n) i j ≡ seen-of (window d n) i j) → dot d′ i j ≡ dot d i j
 unfolding dot dot-of

@@ -1,0 +1,4 @@
+pub mod Gaps
+pub mod Does
+pub mod Windows
+pub mod Painting
