@@ -1,3 +1,4 @@
 pub mod Carrying
-mod Arranging
+pub mod Arranging
 mod Making
+pub mod Painted

@@ -66,14 +66,15 @@ blank c x y wide high = record { owner = c; shown = false; x = x; y = y; wide = 
 abbrev pub told-made : ℕ → ℕ → Option Told
 told-made c n = Some (record { program = c; word = Made n })
 
-pub made-carried : (z : Sizes) (s : State) (t : Stack) (p q : List ℕ) (c n wide high used at size : ℕ) (x y : ℤ) (b : Bool) → Good (sizes-of z) s (length p) →
+pub made-carried : (z : Sizes) (s : State) (t : Stack) (p q : List ℕ) (c n wide high used at size : ℕ) (x y x′ y′ : ℤ) (b : Bool) → x′ ≡ x → y′ ≡ y → Good (sizes-of z) s (length p) →
     n ≡ free (windows-of (s .stack) p) → getD (slots-of (s .stack)) n None ≡ None → used ≡ area (windows-of (s .stack) p) → makeable (sizes-of z) c n wide high used ≡ true →
-    slots-of t ≡ packed 0 (set (slots-of (s .stack)) n (Some (blank c x y wide high))) → t .limit ≡ s .stack .limit →
+    slots-of t ≡ packed 0 (set (slots-of (s .stack)) n (Some (blank c x′ y′ wide high))) → t .limit ≡ s .stack .limit →
     b ≡ ltb (length (order-of (s .stack))) 255 → order-of t ≡ pick b (order-of (s .stack) ++ n ∷ []) (order-of (s .stack)) →
     at ≡ start-of (getD (slots-of t) n None) → size ≡ wide * high → (at ≤ used → used + size ≤ length p → Opened at size used p q) →
     Carried (sizes-of z) (make c x y wide high) s p (with-stack s t) q (told-made c n)
 unfolding does with-order with-window
-made-carried z s t p q c n wide high used at size x y b g f e u m k l a o v sz w =
+made-carried z s t p q c n wide high used at size x y x′ y′ b ex ey g f e u m k′ l a o v sz w =
+    let k : slots-of t ≡ packed 0 (set (slots-of (s .stack)) n (Some (blank c x y wide high))) = k′ ∙ ap (λ i. packed 0 (set (slots-of (s .stack)) n (Some (blank c i y′ wide high)))) ex ∙ ap (λ i. packed 0 (set (slots-of (s .stack)) n (Some (blank c x i wide high)))) ey in
     let al = allowed z c n wide high used m in
     let lim = g .limit in
     let ln = length-slots (s .stack) in

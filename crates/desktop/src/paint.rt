@@ -1,6 +1,6 @@
 // Requests that paint: fill, put and copy.
 ghost use mathlib.Core.Path.{_≡_};
-ghost use mathlib.Core.Bool.{true};
+ghost use mathlib.Core.Bool.{true, _&&_};
 ghost use mathlib.Core.List.{List};
 ghost use Prim.Native.Nat.{ℕ};
 ghost use lib.ListN.{length};
@@ -14,7 +14,7 @@ ghost use Rattle.stack.specs.View.{view};
 ghost use Rattle.layout.specs.Sizes.{sizes-of};
 ghost use Rattle.layout.specs.State.{Good};
 ghost use Rattle.desktop.specs.Does.{Carried};
-ghost use Rattle.desktop.specs.Painting.{picture-of};
+ghost use Rattle.desktop.specs.Painting.{picture-of, area-at};
 use crate::told::Told;
 use crate::told::answer;
 use layout::sizes::Sizes;
@@ -46,9 +46,16 @@ pub fn has_box(w: Window, x: u16, y: u16, wide: u16, high: u16) -> bool
         && y as u32 + high as u32 <= w.high as u32
 }
 
-// A box of a window in code's own words.
+// Whether a box lies in a window, and the one of its sides at to_x, to_y too.
+fn has_both(w: Window, x: u16, y: u16, wide: u16, high: u16, to_x: u16, to_y: u16) -> bool
+    ensures { λ r. ⌜ ((p : List ℕ) → r ≡ (box-fits (view p (Some w)) x y wide high && box-fits (view p (Some w)) «to_x» «to_y» wide high)) ⌝ }
+{
+    has_box(w, x, y, wide, high) && has_box(w, to_x, to_y, wide, high)
+}
+
+// A box of a window's own dots.
 fn area(x: u16, y: u16, wide: u16, high: u16) -> Area
-    ensures { λ r. ⌜ r .x ≡ x ⌝ ∗ ⌜ r .y ≡ y ⌝ ∗ ⌜ r .wide ≡ wide ⌝ ∗ ⌜ r .high ≡ high ⌝ }
+    ensures { λ r. ⌜ r ≡ area-at x y wide high ⌝ }
 {
     Area {
         x: x as usize,
@@ -79,7 +86,7 @@ pub fn copy(s: &State, pictures: &mut [u32], program: u8, window: u8, x: u16, y:
     let Some(w) = s.stack.owned(program, window) else {
         return answer(program, false);
     };
-    if !has_box(w, x, y, wide, high) || !has_box(w, to_x, to_y, wide, high) {
+    if !has_both(w, x, y, wide, high, to_x, to_y) {
         return answer(program, false);
     }
     let _ = pixels::copy(pictures, picture(w), area(x, y, wide, high), to_x as usize, to_y as usize);

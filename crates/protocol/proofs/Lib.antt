@@ -1,7 +1,7 @@
 mod Adding
 mod ByKind
 mod Digits
-mod Rows
+pub mod Rows
 mod Signs
 mod Tests
 mod FieldLaws

@@ -1,14 +1,44 @@
-use borrow.Author.Needs.{needs}
+use mathlib.Core.Path.{_≡_, refl, sym, ap, _∙_, subst}
+use mathlib.Core.Bool.{true, false, _&&_}
+use lib.ListN.{length}
+use Rattle.std.proofs.shelf.Tests.{and-left, and-right}
+use Rattle.layout.specs.Sizes.{sizes-of}
+use Rattle.layout.specs.State.{desk-of}
+use Rattle.model.specs.Desk.{fill, sender, window, mine, box-fits}
+use Rattle.model.specs.System.{taken}
+use Rattle.desktop.specs.Does.{Carried}
+use Rattle.desktop.proofs.Carrying.{refusal}
+use Rattle.desktop.proofs.Painted.{fill-carried}
 use Rattle.desktop.proofs.paint.fill.Needs as need
 
--- src/paint.rt:66:9
 pub returns-in-rest : need.returns-in-rest
-returns-in-rest c = ?
+unfolding taken sender
+returns-in-rest c z g =
+    let p = c .args .pictures .now in
+    let d = desk-of (c .args .s .now) p in
+    let e = fill (c .args .program) (c .args .window) (c .args .x) (c .args .y) (c .args .wide) (c .args .high) (c .args .colour) in
+    subst (Carried (sizes-of z) e (c .args .s .now) p _ _) (sym (c .answer .ensures))
+    (refusal z e (c .args .s .now) p (c .args .program) g
+      (and-left (mine d (c .args .program) (c .args .window)) (box-fits (window d (c .args .window)) (c .args .x) (c .args .y) (c .args .wide) (c .args .high)) (c .in-rest .ensures tt d p refl)) refl)
 
--- src/paint.rt:69:9
 pub returns-then-not-has-box : need.returns-then-not-has-box
-returns-then-not-has-box c = ?
+unfolding taken sender
+returns-then-not-has-box c z g =
+    let p = c .args .pictures .now in
+    let d = desk-of (c .args .s .now) p in
+    let e = fill (c .args .program) (c .args .window) (c .args .x) (c .args .y) (c .args .wide) (c .args .high) (c .args .colour) in
+    let o = c .in-Some .ensures tt in
+    subst (Carried (sizes-of z) e (c .args .s .now) p _ _) (sym (c .answer-then-not-has-box .ensures))
+    (refusal z e (c .args .s .now) p (c .args .program) g
+      (and-right (mine d (c .args .program) (c .args .window)) (box-fits (window d (c .args .window)) (c .args .x) (c .args .y) (c .args .wide) (c .args .high))
+        (ap (λ w. box-fits w (c .args .x) (c .args .y) (c .args .wide) (c .args .high)) (o .value d p refl) ∙ sym (c .if-not-has-box .ensures tt p))) refl)
 
--- src/paint.rt:62:1
 pub returns : need.returns
-returns c = ?
+returns c z g =
+    let p = c .args .pictures .now in
+    let d = desk-of (c .args .s .now) p in
+    let e = fill (c .args .program) (c .args .window) (c .args .x) (c .args .y) (c .args .wide) (c .args .high) (c .args .colour) in
+    let o = c .in-Some .ensures tt in
+    subst (Carried (sizes-of z) e (c .args .s .now) p _ _) (sym (c .answer-2 .ensures))
+    (fill-carried z (c .args .s .now) p (c .fill .last .pictures) (c .args .program) (c .args .window) (c .in-Some .w) (c .picture .result) (c .fill .result) g (o .slot) (o .mine d p refl) (o .value d p refl) (c .picture .ensures)
+      (c .args .x) (c .args .y) (c .args .wide) (c .args .high) (c .args .colour) (c .area .result) (sym (c .if-not-has-box .ensures tt p)) (c .area .ensures) (c .fill .ensures .answer) (c .fill .ensures .done))

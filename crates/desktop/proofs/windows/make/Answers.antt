@@ -1,5 +1,7 @@
 use mathlib.Core.Path.{_≡_, refl, sym, ap, _∙_, subst}
 use mathlib.Core.Bool.{false}
+use mir.Syntax.{w16}
+use Rattle.std.proofs.shelf.Signed.{toZ-ofZ}
 use mathlib.Core.List.{[], _∷_, _++_}
 use lib.Dec.{ltb}
 use lib.ListN.{length}
@@ -33,7 +35,7 @@ returns c g =
     let b = c .pack .ensures in
     let d = c .append .ensures in
     made-carried (c .args .z) (c .args .s .now) (c .append .last .self) p (c .open-gap .last .pictures) (c .args .program) (c .lowest-free-n .result) (c .args .wide) (c .args .high) (c .area-used-used .result)
-      (c .picture-start-at .result) (c .dots .result) (c .args .x) (c .args .y) (c .append .result) g
+      (c .picture-start-at .result) (c .dots .result) (c .args .x) (c .args .y) _ _ (c .append .result) (toZ-ofZ w16 (c .args .x) (c .fits .x)) (toZ-ofZ w16 (c .args .y) (c .fits .y)) g
       (c .lowest-free-n .ensures .value p) (c .lowest-free-n .ensures .none) (c .area-used-used .ensures .value p) (sym (c .if-not-may-make .ensures tt))
       (d .slots ∙ b .slots ∙ ap (packed 0) (a .slots)) (d .limit ∙ b .limit ∙ a .limit)
       (d .answer ∙ ap (λ o. ltb (length o) 255) (b .order ∙ a .order)) (d .order ∙ ap (λ o. pick (c .append .result) (o ++ c .lowest-free-n .result ∷ []) o) (b .order ∙ a .order))
