@@ -1,0 +1,17 @@
+pub mod Rising
+pub mod Scan
+pub mod Pairs
+pub mod Sweeping
+pub mod Banding
+pub mod Walks
+pub mod Flattening
+pub mod Reading
+pub mod Building
+pub mod Counting
+pub mod Rooming
+pub mod Theorems
+pub mod Sides
+pub mod Shifting
+pub mod Overlap
+pub mod Wording
+pub mod Testing
