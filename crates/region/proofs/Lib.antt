@@ -15,3 +15,5 @@ pub mod Shifting
 pub mod Overlap
 pub mod Wording
 pub mod Testing
+pub mod Measuring
+pub mod Moving

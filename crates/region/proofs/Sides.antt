@@ -26,7 +26,7 @@ pub length-sides : (rs : List Rect) → length (sides rs) ≡ 2 * length rs
 length-sides [] = refl
 length-sides (r ∷ rs) = let e = length-sides rs in omega arith
 
-abbrev On : List ℕ → List ℕ → Rect → Type 0
+abbrev pub On : List ℕ → List ℕ → Rect → Type 0
 On X Y r = (among X (r .left) ≡ true) × (among X (r .right) ≡ true) × (among Y (r .top) ≡ true) × (among Y (r .below) ≡ true)
 
 abbrev pub All-on : List ℕ → List ℕ → List Rect → Type 0
@@ -46,12 +46,14 @@ on-more a b c d X Y (r ∷ rs) h = (
 here : (x : ℕ) (X : List ℕ) → among (x ∷ X) x ≡ true
 here x X = ap (λ b. b || among X x) (eq-eqb x x refl)
 
+-- a box is on its own lines, before any others
+pub on-first : (r : Rect) (X Y : List ℕ) → On (r .left ∷ r .right ∷ X) (r .top ∷ r .below ∷ Y) r
+on-first r X Y =
+    (here (r .left) (r .right ∷ X), more (r .left) (r .right ∷ X) (r .right) (here (r .right) X), here (r .top) (r .below ∷ Y), more (r .top) (r .below ∷ Y) (r .below) (here (r .below) Y))
+
 pub on-own : (rs : List Rect) → All-on (edges rs) (sides rs) rs
 on-own [] = tt
-on-own (r ∷ rs) = (
-  (here (r .left) (r .right ∷ edges rs), more (r .left) (r .right ∷ edges rs) (r .right) (here (r .right) (edges rs)), here (r .top) (r .below ∷ sides rs), more (r .top) (r .below ∷ sides rs) (r .below) (here (r .below) (sides rs))),
-  on-more (r .left) (r .right) (r .top) (r .below) (edges rs) (sides rs) rs (on-own rs),
-)
+on-own (r ∷ rs) = (on-first r (edges rs) (sides rs), on-more (r .left) (r .right) (r .top) (r .below) (edges rs) (sides rs) rs (on-own rs))
 
 pub on-take : (X Y : List ℕ) (rs : List Rect) (i : ℕ) → All-on X Y rs → All-on X Y (take i rs)
 on-take X Y rs zero h = tt

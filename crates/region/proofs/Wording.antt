@@ -1,18 +1,20 @@
 -- Boxes as pairs of words: how parts of the words are parts of the boxes.
-use mathlib.Core.Path.{_≡_, refl, sym, _∙_, ap, ap₂}
+use mathlib.Core.Path.{_≡_, refl, sym, _∙_, ap, ap₂, subst}
 use mathlib.Core.List.{List, [], _∷_, _++_}
+use mathlib.Core.Bool.{Bool, true, false, _&&_, _||_, cond}
 use Prim.Native.Nat.{ℕ, zero, suc, _+_, _-_, _*_, _/_, _%_, _≤_, _<_}
 use native.Mathlib.Omega.{arith}
 use lib.ListN.{length, getD, take, drop, set}
 use Rattle.std.proofs.shelf.Lists.{length-take, length-take-le, length-drop, length-append, drop-all, append-nil}
 use borrow.Rule.Slice.PartMut.{putMid, postOf}
 use Rattle.geometry.specs.declared.Rect.{Rect}
-use Rattle.geometry.specs.Boxes.{blank}
-use mathlib.Core.Path.{subst}
+use Rattle.geometry.specs.Boxes.{blank, in-rect}
+use Rattle.std.proofs.shelf.Tests.{lt-ltb}
 use Rattle.region.specs.declared.Op.{Op}
-use Rattle.region.specs.Flat.{covers, Canonical}
+use Rattle.region.specs.Flat.{covers, Canonical, Proper}
 use Rattle.region.specs.Reader.{Combined}
-use Rattle.region.specs.Words.{unpacked, rects, Makes}
+use Rattle.region.specs.Words.{unpacked, rects, Makes, Boxed, one}
+use Rattle.region.proofs.Theorems.{box-is}
 
 twice : (n : ℕ) → 2 * suc n ≡ suc (suc (2 * n))
 twice n = omega arith
@@ -99,3 +101,29 @@ makes op A B out n k =
       canonical = subst Canonical (sym (rects-take n out)) (k .canonical);
       dots = λ i j. ap (λ (z : List Rect). covers z i j) (rects-take n out) ∙ k .dots i j;
     }
+
+-- one box at the start of the words
+pub covers-one : (r : Rect) (i j : ℕ) → covers (r ∷ []) i j ≡ in-rect r i j
+covers-one r i j = by (in-rect r i j)
+  where
+    by : (b : Bool) → (b || false) ≡ b
+    by true = refl
+    by false = refl
+
+pub one-is : (r : Rect) → Proper r → one r ≡ r ∷ []
+one-is r p = ap₂ (λ u v. cond (u && v) (r ∷ []) []) (lt-ltb (r .left) (r .right) (p .wide)) (lt-ltb (r .top) (r .below) (p .high))
+
+pub boxed-one : (r : Rect) (before after : List ℕ) → Proper r → 2 ≤ length before → r .left < 65536 → r .right < 65536 → after ≡ set (set before 0 (r .left + r .top * 65536)) 1 (r .right + r .below * 65536) → Boxed r before after 1
+boxed-one r [] after p h l m e = absurd (omega arith)
+boxed-one r (x ∷ []) after p h l m e = absurd (omega arith)
+boxed-one r (x ∷ y ∷ ws) after p h l m e =
+    record {
+      within = omega (arith, ap length e);
+      are = are ∙ sym (one-is r p);
+      canonical = subst Canonical (sym are) (box-is r p);
+      dots = λ i j. ap (λ (z : List Rect). covers z i j) are ∙ covers-one r i j;
+      past = ap (drop 2) e;
+    }
+  where
+    are : rects (take 2 after) ≡ r ∷ []
+    are = ap (λ (z : List ℕ). rects (take 2 z)) e ∙ ap (λ (z : Rect). z ∷ []) (unpacked-packed (r .left) (r .top) (r .right) (r .below) l m)

@@ -10,6 +10,7 @@ use Rattle.geometry.specs.Boxes.{in-rect}
 use Rattle.region.specs.Bands.{canon}
 use Rattle.region.specs.Flat.{covers, flat, Canonical, Proper}
 use Rattle.region.specs.Lines.{Lines}
+use Rattle.region.specs.Dots.{area, dots-in}
 
 -- two canonical lists of boxes that cover the same dots are the same
 abbrev pub Unique : Type 0
@@ -38,3 +39,7 @@ tally (r ∷ rs) i j = cond (in-rect r i j) (suc (tally rs i j)) (tally rs i j)
 
 abbrev pub Apart : Type 0
 Apart = (rs : List Rect) (i j : ℕ) → Canonical rs → tally rs i j ≤ 1
+
+-- the dots of its boxes are the dots that it covers
+abbrev pub Measured : Type 0
+Measured = (rs : List Rect) → Canonical rs → area rs ≡ dots-in (covers rs) 4096 4096

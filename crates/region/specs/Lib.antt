@@ -8,3 +8,4 @@ pub mod Laws
 pub mod Shift
 pub mod Words
 pub mod Checks
+pub mod Dots

@@ -2,7 +2,7 @@
 ghost use mathlib.Core.Path.{_≡_};
 ghost use mathlib.Core.Bool.{Bool, true, false, cond};
 ghost use mathlib.Core.List.{_++_, _∷_, []};
-ghost use Prim.Native.Nat.{ℕ, suc, _+_, _-_, _*_, _/_, _%_, _^_, _<_, _≤_};
+ghost use Prim.Native.Nat.{ℕ, suc, _+_, _-_, _*_, _/_, _%_, _^_, _<_, _≤_, min};
 ghost use lib.ListN.{length, getD, set, take, drop};
 ghost use lib.Dec.{eqb};
 ghost use Rattle.geometry.specs.Boxes.{blank};
@@ -12,8 +12,10 @@ ghost use Rattle.region.specs.Bands.{same-edges};
 ghost use Rattle.region.specs.Flat.{covers, Canonical};
 ghost use Rattle.region.specs.Lines.{Roomy};
 ghost use Rattle.region.specs.Checks.{fits-band, in-band, follows-on};
-ghost use Rattle.region.specs.Words.{rects, Makes, Combines};
-ghost use Rattle.region.specs.Laws.{Unique, Found, Few, Box-is, Apart};
+ghost use Rattle.region.specs.Words.{rects, one, Makes, Combines, Boxes-one};
+ghost use Rattle.region.specs.Shift.{shifted, shifted-one, Stays, steps-forth, steps-back, coming, Moves};
+ghost use Rattle.region.specs.Dots.{area, Counts, No-dots};
+ghost use Rattle.region.specs.Laws.{Unique, Found, Few, Box-is, Apart, Measured};
 ghost use Rattle.region.specs.Reader.{Rest, Slab, leading, stretched, Combined};
 ghost use Rattle.std.specs.Orderings.{Decides};
 ghost use Rattle.std.specs.Options.{Cases as BySome};
@@ -322,6 +324,151 @@ pub fn combine(a: &[u32], b: &[u32], op: Op, out: &mut [u32]) -> Option<usize>
     sweep(a, b, op, out)
 }
 
+// Writes the region that covers one box, and says how many boxes it has; None if the box has dots and passes the desk, or there is no room.
+pub fn from_rect(r: Rect, out: &mut [u32]) -> Option<usize>
+    ensures { λ n. ⌜ Boxes-one r (now (out .entry)) (now (out .exit)) n ⌝ }
+{
+    if r.left >= r.right || r.top >= r.below {
+        return Some(0);
+    }
+    if r.right > SIDE || r.below > SIDE || out.len() < 2 {
+        return None;
+    }
+    put_rect(out, 0, r);
+    Some(1)
+}
+
+// The dots of a region that lie in a box too: so many boxes at the start of `out`.
+fn meet_rect(a: &[u32], r: Rect, out: &mut [u32]) -> Option<usize>
+    requires { ⌜ r .right ≤ 4096 ⌝ ∗ ⌜ r .below ≤ 4096 ⌝ }
+    ensures { λ n. ⌜ Combines Op.Meet (rects (now (a .entry))) (one r) (now (out .exit)) n ⌝ }
+{
+    let mut words: [u32; 2] = [0; 2];
+    let Some(k) = from_rect(r, &mut words) else {
+        return unreachable();
+    };
+    combine(a, &words[0..2 * k], Op::Meet, out)
+}
+
+// How far a distance goes forth: to the right, or down.
+fn forth(d: i16) -> u16
+    ensures { λ n. ⌜ n ≡ steps-forth d ⌝ }
+{
+    if d < 0 { 0 } else { d as u16 }
+}
+
+// How far it goes back: to the left, or up.
+fn back(d: i16) -> u16
+    ensures within { λ n. ⌜ n ≤ 32768 ⌝ }
+    ensures value { λ n. ⌜ n ≡ steps-back d ⌝ }
+{
+    if d < 0 { (-(d as i32)) as u16 } else { 0 }
+}
+
+// The dots that come to lie on the screen, when all go so far to the right and to the left, down and up.
+fn source(right: u16, left: u16, low: u16, up: u16, across: u16, down: u16) -> Rect
+    requires { ⌜ left ≤ 32768 ⌝ ∗ ⌜ up ≤ 32768 ⌝ }
+    ensures { λ r. ⌜ r ≡ coming right left low up across down ⌝ }
+{
+    Rect {
+        left: left.min(SIDE),
+        top: up.min(SIDE),
+        right: (across.min(SIDE) + left).saturating_sub(right).min(SIDE),
+        below: (down.min(SIDE) + up).saturating_sub(low).min(SIDE),
+    }
+}
+
+// A box so many dots to the right and down, and then to the left and up.
+fn moved(b: Rect, right: u16, left: u16, low: u16, up: u16) -> Rect
+    requires { ⌜ Stays right left low up (b ∷ []) ⌝ ∗ ⌜ left ≤ 32768 ⌝ ∗ ⌜ up ≤ 32768 ⌝ }
+    ensures { λ m. ⌜ m ≡ shifted-one right left low up b ⌝ }
+{
+    Rect {
+        left: b.left + right - left,
+        top: b.top + low - up,
+        right: b.right + right - left,
+        below: b.below + low - up,
+    }
+}
+
+// Moves each box.
+fn move_boxes(s: &mut [u32], right: u16, left: u16, low: u16, up: u16)
+    requires stays { ⌜ Stays right left low up (rects (now s)) ⌝ }
+    requires small { ⌜ left ≤ 32768 ⌝ ∗ ⌜ up ≤ 32768 ⌝ }
+    ensures { λ _. ⌜ rects (now (s .exit)) ≡ shifted right left low up (rects (now (s .entry))) ⌝ }
+{
+    'each: for i in 0..s.len() / 2 {
+        let b = rect_at(s, i);
+        put_rect(s, i, moved(b, right, left, low, up));
+    }
+}
+
+// Writes the region a, moved by dx columns and dy rows, as far as it then lies on a screen, and says how many boxes it has.
+// None if a is no region, or out is too short. Of a screen past the desk the desk counts.
+pub fn shift(a: &[u32], dx: i16, dy: i16, across: u16, down: u16, out: &mut [u32]) -> Option<usize>
+    ensures { λ r. ⌜ Moves (rects (now (a .entry))) dx dy across down (now (out .exit)) r ⌝ }
+{
+    let right = forth(dx);
+    let left = back(dx);
+    let low = forth(dy);
+    let up = back(dy);
+    let from = source(right, left, low, up, across, down);
+    let Some(n) = meet_rect(a, from, out) else {
+        return None;
+    };
+    move_boxes(&mut out[0..2 * n], right, left, low, up);
+    Some(n)
+}
+
+// Whether a dot lies in some box.
+pub fn contains(a: &[u32], i: u16, j: u16) -> bool
+    ensures { λ r. ⌜ r ≡ covers (rects (now (a .entry))) i j ⌝ }
+{
+    'each: for k in 0..a.len() / 2 {
+        let r = rect_at(a, k);
+        if r.contains(i, j) {
+            return true;
+        }
+    }
+    false
+}
+
+// Whether no box has a dot. Of a region the first box tells.
+pub fn is_empty(a: &[u32]) -> bool
+    ensures { λ r. ⌜ No-dots r (rects (now (a .entry))) ⌝ }
+{
+    'each: for k in 0..a.len() / 2 {
+        let r = rect_at(a, k);
+        if !r.is_empty() {
+            return false;
+        }
+    }
+    true
+}
+
+// The dots of all boxes.
+fn dots_of(a: &[u32]) -> u32
+    requires { ⌜ Canonical (rects (now a)) ⌝ }
+    ensures { λ n. ⌜ n ≡ area (rects (now (a .entry))) ⌝ }
+{
+    let mut n: u32 = 0;
+    'each: for k in 0..a.len() / 2 {
+        let r = rect_at(a, k);
+        n += r.wide() as u32 * r.high() as u32;
+    }
+    n
+}
+
+// How many dots a region has; None if the boxes are no region.
+pub fn count(a: &[u32]) -> Option<u32>
+    ensures { λ r. ⌜ Counts (rects (now (a .entry))) r ⌝ }
+{
+    if !is_region(a) {
+        return None;
+    }
+    Some(dots_of(a))
+}
+
 // The laws that callers may lean on.
 pub fn laws() -> u8
     ensures unique { λ _. ⌜ Unique ⌝ }
@@ -329,6 +476,7 @@ pub fn laws() -> u8
     ensures few { λ _. ⌜ Few ⌝ }
     ensures single { λ _. ⌜ Box-is ⌝ }
     ensures apart { λ _. ⌜ Apart ⌝ }
+    ensures measured { λ _. ⌜ Measured ⌝ }
 {
     0
 }
