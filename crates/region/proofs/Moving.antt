@@ -39,7 +39,7 @@ one-covers r i j = by (ltb (r .left) (r .right) && ltb (r .top) (r .below)) refl
     by false e = off (r .left) (r .right) (r .top) (r .below) i j e
 
 -- and that they are a region
-pub one-region : (r : Rect) → r .right ≤ 4096 → r .below ≤ 4096 → Canonical (one r)
+one-region : (r : Rect) → r .right ≤ 4096 → r .below ≤ 4096 → Canonical (one r)
 one-region r h k = by (ltb (r .left) (r .right)) (ltb (r .top) (r .below)) refl refl
   where
     lt-of : (a b : ℕ) → ltb a b ≡ true → a < b
@@ -226,6 +226,9 @@ module _ (dx dy : ℤ) (across down : ℕ) (A : List Rect) (out : List ℕ) (n r
           ∙ (q ∙ (ap (λ (z : ℕ). shifted r l d u (rects (take z out))) none ∙ (λ i. shifted (er i) (el i) (ed i) (eu i) (rects (take (2 * n) out)))))
 
 -- the room that it wants
+pub coming-region : (r l d u across down : ℕ) (P : Rect) → P ≡ coming r l d u across down → Canonical (one P)
+coming-region r l d u across down P e = subst (λ (z : Rect). Canonical (one z)) (sym e) (one-region (coming r l d u across down) (omega arith) (omega arith))
+
 pub moved-room : (P : Rect) (A : List Rect) (room : ℕ) (X Y : List ℕ) → Lines X Y A → (length X + 2) * (length Y + 4) ≤ 2 * room → Roomy A (one P) room
 moved-room P A room X Y l h =
     record {

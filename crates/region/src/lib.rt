@@ -19,8 +19,8 @@ ghost use Rattle.region.specs.Laws.{Unique, Found, Few, Box-is, Apart, Measure
 ghost use Rattle.region.specs.Reader.{Rest, Slab, leading, stretched, Combined};
 ghost use Rattle.std.specs.Orderings.{Decides};
 ghost use Rattle.std.specs.Options.{Cases as BySome};
-use geometry::Rect;
 use geometry::BLANK;
+use geometry::Rect;
 
 // What is made of two sets.
 #[derive(Clone, Copy)]
@@ -437,8 +437,8 @@ pub fn contains(a: &[u32], i: u16, j: u16) -> bool
 pub fn is_empty(a: &[u32]) -> bool
     ensures { λ r. ⌜ No-dots r (rects (now (a .entry))) ⌝ }
 {
-    'each: for k in 0..a.len() / 2 {
-        let r = rect_at(a, k);
+    'each: for n in 0..a.len() / 2 {
+        let r = rect_at(a, n);
         if !r.is_empty() {
             return false;
         }
@@ -480,3 +480,6 @@ pub fn laws() -> u8
 {
     0
 }
+
+#[cfg(test)]
+mod tests;

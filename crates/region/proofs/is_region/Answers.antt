@@ -41,8 +41,8 @@ pub returns-then-not-follows : need.returns-then-not-follows
 returns-then-not-follows c = (
   (λ e. absurd (false≢true e)),
   (λ k.
-    absurd (tested-stop (rects (c .args .a .now)) (c .bands .m) (c .bands .p) (c .bands .y) (c .band-end-end .result) (c .rect-at-first .result) (c .bands .inv .0) (omega (arith, length-rects (c .args .a .now))) (c .rect-at-first .ensures)
-    (c .band-end-end .ensures) (sym (on-boxes (c .args .a .now) (c .bands .m) (c .bands .p) (c .band-end-end .result) (c .bands .y) (c .rect-at-first .result)) ∙ (sym (c .follows .ensures) ∙ c .if-not-follows .taken)) k)),
+      absurd (tested-stop (rects (c .args .a .now)) (c .bands .m) (c .bands .p) (c .bands .y) (c .band-end-end .result) (c .rect-at-first .result) (c .bands .inv .0) (omega (arith, length-rects (c .args .a .now))) (c .rect-at-first .ensures)
+      (c .band-end-end .ensures) (sym (on-boxes (c .args .a .now) (c .bands .m) (c .bands .p) (c .band-end-end .result) (c .bands .y) (c .rect-at-first .result)) ∙ (sym (c .follows .ensures) ∙ c .if-not-follows .taken)) k)),
 )
 
 pub bands-less : need.bands-less
