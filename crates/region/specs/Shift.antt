@@ -2,7 +2,7 @@
 use mathlib.Core.Path.{_≡_}
 use mathlib.Core.Bool.{Bool, true, false, _&&_}
 use mathlib.Core.List.{List, [], _∷_}
-use Prim.Native.Nat.{ℕ, zero, suc, _+_, _-_, _*_, _/_, _≤_, _<_, min}
+use Prim.Native.Nat.{ℕ, zero, suc, _+_, _-_, _*_, _≤_, _<_, min}
 use lib.Dec.{leb, ltb}
 use lib.IntN.{ℤ, pos, negsuc, _-ℤ_}
 use lib.Signed.{leZ, mag}
@@ -57,6 +57,6 @@ pub record Moved (A : List Rect) (dx dy : ℤ) (across down : ℕ) (out : List �
   pub dots : (i j : ℕ) → covers (rects (take (2 * n) out)) i j ≡ (on-screen (min across 4096) (min down 4096) i j && moved-has A dx dy i j)
 
 -- the answer of a move: none where A is no region, or there was too little room for the lines at which it changes and those of the screen
-abbrev pub Moves : List Rect → ℤ → ℤ → ℕ → ℕ → List ℕ → Option ℕ → Type 0
-Moves A dx dy across down out None = Canonical A → (X Y : List ℕ) → Lines X Y A → (length X + 2) * (length Y + 4) ≤ 2 * (length out / 2) → ⊥
-Moves A dx dy across down out (Some n) = Canonical A × Moved A dx dy across down out n
+abbrev pub Moves : List Rect → ℤ → ℤ → ℕ → ℕ → ℕ → List ℕ → Option ℕ → Type 0
+Moves A dx dy across down room out None = Canonical A → (X Y : List ℕ) → Lines X Y A → (length X + 2) * (length Y + 4) ≤ 2 * room → ⊥
+Moves A dx dy across down room out (Some n) = Canonical A × Moved A dx dy across down out n

@@ -34,10 +34,11 @@ pub record Makes (op : Op) (A B : List Rect) (out : List ℕ) (n : ℕ) : Type 0
   pub canonical : Canonical (rects (take (2 * n) out))
   pub dots : (i j : ℕ) → covers (rects (take (2 * n) out)) i j ≡ act op (covers A i j) (covers B i j)
 
--- the answer of an operation, and what `out` then holds: boxes that are made of two regions, or none, where A or B is no region or there was too little room for the lines at which they change
-abbrev pub Combines : Op → List Rect → List Rect → List ℕ → Option ℕ → Type 0
-Combines op A B out None = Canonical A → Canonical B → Roomy A B (length out / 2) → ⊥
-Combines op A B out (Some n) = (Canonical A × Canonical B) × Makes op A B out n
+-- the answer of an operation, with room for so many boxes, and what `out` then holds: boxes that are made of two regions,
+-- or none, where A or B is no region or there was too little room for the lines at which they change
+abbrev pub Combines : Op → List Rect → List Rect → ℕ → List ℕ → Option ℕ → Type 0
+Combines op A B room out None = Canonical A → Canonical B → Roomy A B room → ⊥
+Combines op A B room out (Some n) = (Canonical A × Canonical B) × Makes op A B out n
 
 -- the boxes of what lies in one box: that box, or none
 abbrev pub one : Rect → List Rect

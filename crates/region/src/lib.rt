@@ -316,7 +316,7 @@ pub fn is_region(a: &[u32]) -> bool
 
 // Writes the boxes of what `op` makes of the regions a and b, and says how many; None if a or b is no region, or out is too short.
 pub fn combine(a: &[u32], b: &[u32], op: Op, out: &mut [u32]) -> Option<usize>
-    ensures { λ r. ⌜ Combines op (rects (now (a .entry))) (rects (now (b .entry))) (now (out .exit)) r ⌝ }
+    ensures { λ r. ⌜ Combines op (rects (now (a .entry))) (rects (now (b .entry))) (length (now (out .entry)) / 2) (now (out .exit)) r ⌝ }
 {
     if !is_region(a) || !is_region(b) {
         return None;
@@ -341,7 +341,7 @@ pub fn from_rect(r: Rect, out: &mut [u32]) -> Option<usize>
 // The dots of a region that lie in a box too: so many boxes at the start of `out`.
 fn meet_rect(a: &[u32], r: Rect, out: &mut [u32]) -> Option<usize>
     requires { ⌜ r .right ≤ 4096 ⌝ ∗ ⌜ r .below ≤ 4096 ⌝ }
-    ensures { λ n. ⌜ Combines Op.Meet (rects (now (a .entry))) (one r) (now (out .exit)) n ⌝ }
+    ensures { λ n. ⌜ Combines Op.Meet (rects (now (a .entry))) (one r) (length (now (out .entry)) / 2) (now (out .exit)) n ⌝ }
 {
     let mut words: [u32; 2] = [0; 2];
     let Some(k) = from_rect(r, &mut words) else {
@@ -406,7 +406,7 @@ fn move_boxes(s: &mut [u32], right: u16, left: u16, low: u16, up: u16)
 // Writes the region a, moved by dx columns and dy rows, as far as it then lies on a screen, and says how many boxes it has.
 // None if a is no region, or out is too short. Of a screen past the desk the desk counts.
 pub fn shift(a: &[u32], dx: i16, dy: i16, across: u16, down: u16, out: &mut [u32]) -> Option<usize>
-    ensures { λ r. ⌜ Moves (rects (now (a .entry))) dx dy across down (now (out .exit)) r ⌝ }
+    ensures { λ r. ⌜ Moves (rects (now (a .entry))) dx dy across down (length (now (out .entry)) / 2) (now (out .exit)) r ⌝ }
 {
     let right = forth(dx);
     let left = back(dx);
