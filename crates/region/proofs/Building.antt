@@ -1,28 +1,26 @@
 -- The sweep over the bands of two regions, from above.
 use mathlib.Core.Path.{_≡_, refl, sym, _∙_, ap, ap₂, subst, subst₂}
-use mathlib.Core.Bool.{Bool, true, false, not, _&&_, _||_, cond}
+use mathlib.Core.Bool.{Bool, true, false, not, _&&_, cond}
 use mathlib.Core.List.{List, [], _∷_, _++_}
 use mathlib.Core.Logic.{_⊎_, inl, inr, _≢_}
-use Prim.Native.Nat.{ℕ, zero, suc, _+_, _-_, _*_, _≤_, _<_, min}
+use Prim.Native.Nat.{ℕ, suc, _+_, _-_, _≤_, _<_, min}
 use native.Mathlib.Omega.{arith}
 use lib.Dec.{eqb, leb, ltb}
-use lib.ListN.{length, getD, take, drop, set}
-use Rattle.std.proofs.shelf.Tests.{eq-eqb, ne-eqb, cases-bool, cases-lt, cases-eq, true≢false, lt-ltb, le-ltb, le-leb}
-use Rattle.std.proofs.shelf.Lists.{append-assoc, append-nil, take-at, drop-at, take-take, take-append-le, length-append, length-take-le}
+use lib.ListN.{length, take, drop}
+use Rattle.std.proofs.shelf.Tests.{eq-eqb, ne-eqb, cases-lt, cases-eq, lt-ltb, le-ltb, le-leb}
+use Rattle.std.proofs.shelf.Lists.{append-nil, take-at, drop-at, take-take, take-append-le, length-append, length-take-le}
 use Rattle.std.proofs.shelf.Parts.{between-is}
 use Rattle.region.proofs.Walks.{length-stretched}
 use Rattle.geometry.specs.declared.Rect.{Rect}
 use Rattle.region.specs.declared.Op.{Op}
-use Rattle.region.specs.Edges.{inside, odd, Between, Row}
-use Rattle.geometry.specs.Boxes.{blank}
+use Rattle.region.specs.Edges.{inside, Between, Row}
 use Rattle.region.specs.Boxes.{edges, Rows, across, none, act}
 use Rattle.region.specs.Bands.{same-edges, Change, row-at, last-row, Bands, Region, has}
 use Rattle.region.specs.Flat.{covers, boxes, flat, Canonical}
-use Rattle.region.specs.Reader.{Rest, Slab, leading, stretched, Combined}
-use Rattle.region.proofs.Rising.{not-not}
-use Rattle.region.proofs.Pairs.{length-edges, across-inside, odd-edges}
+use Rattle.region.specs.Reader.{Rest, Slab, stretched, Combined}
+use Rattle.region.proofs.Pairs.{across-inside, odd-edges}
 use Rattle.region.proofs.Banding.{at-past, at-before, lower-bands, wider-bands, unique-region, same-true, same-false}
-use Rattle.region.proofs.Flattening.{edges-boxes, rows-boxes, boxes-edges, bands-spread, covers-boxes, flat-covers, flat-push}
+use Rattle.region.proofs.Flattening.{edges-boxes, boxes-edges, bands-spread, flat-covers, flat-push}
 
 pub row-past : (low : ℕ) (r : List ℕ) (cs : List Change) (high j : ℕ) → Bands low r cs high → high ≤ suc j → row-at r cs j ≡ last-row r cs
 row-past low r [] high j h l = refl

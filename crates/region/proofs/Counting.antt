@@ -1,24 +1,23 @@
 -- How many boxes a set of dots has in canonical form.
-use mathlib.Core.Path.{_≡_, refl, sym, _∙_, ap, ap₂, subst}
-use mathlib.Core.Bool.{Bool, true, false, not, _&&_, _||_, cond}
-use mathlib.Core.List.{List, [], _∷_, _++_}
-use mathlib.Core.Logic.{_⊎_, inl, inr, _≢_}
-use Prim.Native.Nat.{ℕ, zero, suc, _+_, _-_, _*_, _≤_, _<_}
+use mathlib.Core.Path.{_≡_, refl, sym, _∙_, ap, subst}
+use mathlib.Core.Bool.{Bool, true, false, not, _||_, cond}
+use mathlib.Core.List.{List, [], _∷_}
+use mathlib.Core.Logic.{_⊎_, inl, inr}
+use Prim.Native.Nat.{ℕ, zero, suc, _+_, _*_, _≤_, _<_}
 use native.Mathlib.Omega.{arith}
-use native.Mathlib.Nat.{mul-le-mul-right, mul-le-mul-left, add-mul, mul-comm, mul-add, suc-mul}
-use lib.Dec.{eqb, leb, ltb}
-use lib.ListN.{length, getD, take, drop}
-use Rattle.std.proofs.shelf.Tests.{eq-eqb, ne-eqb, eqb-true, eqb-false, cases-bool, cases-lt, cases-eq, true≢false, false≢true, lt-leb, le-leb, or-cases}
+use native.Mathlib.Nat.{mul-le-mul-right, suc-mul}
+use lib.Dec.{leb}
+use lib.ListN.{length}
+use Rattle.std.proofs.shelf.Tests.{ne-eqb, cases-bool, cases-lt, cases-eq, true≢false, false≢true, lt-leb, le-leb}
 use Rattle.std.proofs.shelf.Lists.{length-append}
-use Rattle.geometry.specs.declared.Rect.{Rect}
-use Rattle.region.specs.Edges.{turned, inside, odd, Between, Row}
+use Rattle.region.specs.Edges.{inside, Between, Row}
 use Rattle.region.specs.Boxes.{edges}
-use Rattle.region.specs.Bands.{Change, row-at, last-row, Bands}
-use Rattle.region.specs.Flat.{covers, boxes, flat}
-use Rattle.region.specs.Lines.{among, before, Only, Lines}
-use Rattle.region.proofs.Rising.{turned-at, turned-before, inside-before, unique}
+use Rattle.region.specs.Bands.{Change, row-at, Bands}
+use Rattle.region.specs.Flat.{boxes, flat}
+use Rattle.region.specs.Lines.{among, before, Only}
+use Rattle.region.proofs.Rising.{turned-at, inside-before, unique}
 use Rattle.region.proofs.Flattening.{bands-spread}
-use Rattle.region.proofs.Banding.{at-past, at-before, row-before, row-here, row-row}
+use Rattle.region.proofs.Banding.{at-past, at-before, row-here, row-row}
 
 -- how many of X are low or more
 many : ℕ → List ℕ → ℕ

@@ -1,23 +1,20 @@
 -- Boxes in bands.
-use mathlib.Core.Path.{_≡_, refl, sym, _∙_, ap, ap₂, subst}
-use mathlib.Core.Bool.{Bool, true, false, not, _&&_, _||_, cond}
+use mathlib.Core.Path.{_≡_, refl, sym, _∙_, ap, ap₂}
+use mathlib.Core.Bool.{Bool, true, false, _&&_, _||_}
 use mathlib.Core.List.{List, [], _∷_, _++_}
-use mathlib.Core.Logic.{_⊎_, inl, inr, _≢_}
-use Prim.Native.Nat.{ℕ, zero, suc, _+_, _-_, _*_, _≤_, _<_}
+use mathlib.Core.Logic.{_⊎_, inl, inr}
+use Prim.Native.Nat.{ℕ, suc, _≤_, _<_}
 use native.Mathlib.Omega.{arith}
-use lib.Dec.{eqb, leb, ltb}
-use lib.ListN.{length, getD, take, drop, set}
-use Rattle.std.proofs.shelf.Tests.{eq-eqb, ne-eqb, cases-bool, cases-lt, lt-leb, le-leb, lt-ltb, le-ltb, true≢false}
-use Rattle.std.proofs.shelf.Lists.{append-assoc, append-nil}
+use lib.Dec.{leb, ltb}
+use Rattle.std.proofs.shelf.Tests.{cases-lt, lt-leb, le-leb, lt-ltb, le-ltb, true≢false}
+use Rattle.std.proofs.shelf.Lists.{append-assoc}
 use Rattle.geometry.specs.declared.Rect.{Rect}
-use Rattle.region.specs.Edges.{inside, odd, Between, Row}
-use Rattle.geometry.specs.Boxes.{blank}
+use Rattle.region.specs.Edges.{inside, odd, Row}
 use Rattle.region.specs.Boxes.{edges, Rows, across}
-use Rattle.region.specs.Bands.{Change, row-at, last-row, Bands, Region, has}
-use Rattle.region.specs.Flat.{covers, boxes, flat, Canonical}
+use Rattle.region.specs.Bands.{Change, row-at, Bands}
+use Rattle.region.specs.Flat.{covers, boxes, flat}
 use Rattle.region.proofs.Rising.{not-not}
-use Rattle.region.proofs.Pairs.{length-edges, across-inside}
-use Rattle.region.proofs.Banding.{at-past, at-before, unique-region}
+use Rattle.region.proofs.Pairs.{across-inside}
 
 pub edges-boxes : (t b : ℕ) (es : List ℕ) → odd es ≡ false → edges (boxes t b es) ≡ es
 edges-boxes t b [] h = refl

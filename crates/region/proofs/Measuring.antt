@@ -1,21 +1,20 @@
 -- How many dots a region has: the dots of its boxes, since no two of them share one.
 use mathlib.Core.Path.{_≡_, refl, sym, _∙_, ap, ap₂, subst}
-use mathlib.Core.Bool.{Bool, true, false, not, _&&_, _||_, cond}
+use mathlib.Core.Bool.{Bool, true, false, _&&_, _||_, cond}
 use mathlib.Core.List.{List, [], _∷_, _++_}
-use mathlib.Core.Logic.{_⊎_, inl, inr, _≢_}
 use Prim.Native.Nat.{ℕ, zero, suc, _+_, _-_, _*_, _≤_, _<_, min}
 use native.Mathlib.Omega.{arith}
 use native.Mathlib.Nat.{add-mul, mul-comm}
 use lib.Dec.{leb, ltb}
-use lib.ListN.{length, getD, take, drop}
+use lib.ListN.{length, getD, drop}
 use Rattle.std.proofs.shelf.Tests.{true≢false}
 use Rattle.std.proofs.shelf.Ways.{tells}
 use Rattle.std.proofs.shelf.Lists.{drop-more, drop-all}
 use Rattle.geometry.specs.declared.Rect.{Rect}
 use Rattle.geometry.specs.Boxes.{in-rect, blank}
-use Rattle.region.specs.Edges.{Between, Row, odd}
+use Rattle.region.specs.Edges.{Between, Row}
 use Rattle.region.specs.Bands.{Change, Bands, last-row}
-use Rattle.region.specs.Flat.{covers, boxes, flat, Canonical, Proper}
+use Rattle.region.specs.Flat.{covers, boxes, flat, Canonical}
 use Rattle.region.specs.Dots.{bit, total, dots-in, area, Each-proper}
 use Rattle.region.specs.Laws.{tally, Measured}
 use Rattle.region.proofs.Rising.{spread}

@@ -1,25 +1,25 @@
 -- A region that is moved, and clipped to a screen.
 use mathlib.Core.Path.{_≡_, refl, sym, _∙_, ap, ap₂, subst}
-use mathlib.Core.Bool.{Bool, true, false, not, _&&_, _||_, cond}
+use mathlib.Core.Bool.{Bool, true, false, _&&_, _||_, cond}
 use mathlib.Core.List.{List, [], _∷_, _++_}
 use mathlib.Core.Logic.{_⊎_, inl, inr}
-use Prim.Native.Nat.{ℕ, zero, suc, _+_, _-_, _*_, _/_, _≤_, _<_, min}
+use Prim.Native.Nat.{ℕ, zero, suc, _+_, _-_, _*_, _≤_, _<_, min}
 use native.Mathlib.Omega.{arith}
 use lib.Dec.{leb, ltb}
 use lib.IntN.{ℤ, pos, negsuc, _-ℤ_}
 use lib.Signed.{leZ, mag}
-use lib.ListN.{length, take, drop}
-use Rattle.std.proofs.shelf.Tests.{true≢false, cases-lt, lt-leb, le-leb, lt-ltb, le-ltb, or-right}
+use lib.ListN.{length, take}
+use Rattle.std.proofs.shelf.Tests.{true≢false, cases-lt, le-leb, lt-ltb, le-ltb, or-right}
 use Rattle.std.proofs.shelf.Signed.{ints}
 use Rattle.std.proofs.shelf.Lists.{take-at, length-append, length-take-le}
 use Rattle.std.proofs.shelf.Ways.{tells}
 use Rattle.geometry.specs.declared.Rect.{Rect}
 use Rattle.geometry.specs.Boxes.{in-rect, on-screen}
 use Rattle.region.specs.declared.Op.the-variants.{Meet}
-use Rattle.region.specs.Flat.{covers, Canonical, Proper}
-use Rattle.region.specs.Lines.{among, Lines, Roomy}
+use Rattle.region.specs.Flat.{covers, Canonical}
+use Rattle.region.specs.Lines.{Lines, Roomy}
 use Rattle.region.specs.Dots.{Each-proper}
-use Rattle.region.specs.Shift.{shifted, Stays, Shifts, steps-forth, steps-back, coming, moved-has, Moved}
+use Rattle.region.specs.Shift.{shifted, Stays, steps-forth, steps-back, coming, Moved}
 use Rattle.region.specs.Words.{rects, one, Makes}
 use Rattle.region.proofs.Wording.{covers-one}
 use Rattle.region.proofs.Theorems.{box-is}

@@ -1,17 +1,17 @@
 -- The boxes of a region do not overlap: no dot is in two of them.
 use mathlib.Core.Path.{_≡_, refl, sym, _∙_, ap, ap₂, subst}
-use mathlib.Core.Bool.{Bool, true, false, not, _&&_, _||_, cond}
+use mathlib.Core.Bool.{Bool, true, false, not, _&&_, cond}
 use mathlib.Core.List.{List, [], _∷_, _++_}
 use mathlib.Core.Logic.{_⊎_, inl, inr}
-use Prim.Native.Nat.{ℕ, zero, suc, _+_, _≤_, _<_}
+use Prim.Native.Nat.{ℕ, suc, _+_, _≤_, _<_}
 use native.Mathlib.Omega.{arith}
 use lib.Dec.{leb, ltb}
-use Rattle.std.proofs.shelf.Tests.{cases-lt, lt-leb, le-leb, lt-ltb, le-ltb}
+use Rattle.std.proofs.shelf.Tests.{cases-lt, lt-leb, le-ltb}
 use Rattle.geometry.specs.declared.Rect.{Rect}
 use Rattle.geometry.specs.Boxes.{in-rect}
 use Rattle.region.specs.Edges.{Between, Row}
 use Rattle.region.specs.Bands.{Change, Bands}
-use Rattle.region.specs.Flat.{covers, boxes, flat, Canonical}
+use Rattle.region.specs.Flat.{boxes, flat, Canonical}
 use Rattle.region.specs.Laws.{tally}
 
 none : (b : Bool) → (b && false) ≡ false

@@ -1,25 +1,23 @@
 -- A reader that goes down a region.
 use mathlib.Core.Path.{_≡_, refl, sym, _∙_, ap, ap₂, subst, subst₂}
-use mathlib.Core.Bool.{Bool, true, false, not, _&&_, _||_, cond}
+use mathlib.Core.Bool.{true, false, cond}
 use mathlib.Core.List.{List, [], _∷_, _++_}
-use mathlib.Core.Logic.{_⊎_, inl, inr, _≢_}
-use Prim.Native.Nat.{ℕ, zero, suc, _+_, _-_, _*_, _≤_, _<_}
+use mathlib.Core.Logic.{_≢_}
+use Prim.Native.Nat.{ℕ, suc, _+_, _-_, _≤_, _<_}
 use native.Mathlib.Omega.{arith}
-use lib.Dec.{eqb, leb, ltb}
-use lib.ListN.{length, getD, take, drop, set}
-use Rattle.std.proofs.shelf.Tests.{eq-eqb, ne-eqb, cases-bool, cases-lt, true≢false}
-use Rattle.std.proofs.shelf.Lists.{append-assoc, append-nil, drop-more, drop-all, drop-drop, length-drop, take-at, drop-at, length-append}
+use lib.ListN.{length, getD, take, drop}
+use Rattle.std.proofs.shelf.Tests.{eq-eqb, ne-eqb, true≢false}
+use Rattle.std.proofs.shelf.Lists.{drop-more, drop-all, drop-drop, length-drop, take-at, drop-at, length-append}
 use Rattle.geometry.specs.declared.Rect.{Rect}
-use Rattle.region.specs.Edges.{inside, odd, Between, Row}
+use Rattle.region.specs.Edges.{inside, odd, Row}
 use Rattle.geometry.specs.Boxes.{blank}
-use Rattle.region.specs.Boxes.{edges, Rows, across, none}
-use Rattle.region.specs.Bands.{Change, row-at, last-row, Bands, Region, has}
-use Rattle.region.specs.Flat.{covers, boxes, flat, Canonical}
+use Rattle.region.specs.Boxes.{Rows, across, none}
+use Rattle.region.specs.Bands.{Change, row-at, last-row, Bands, has}
+use Rattle.region.specs.Flat.{covers, boxes, flat}
 use Rattle.region.specs.Reader.{Rest, Slab, leading}
-use Rattle.region.proofs.Rising.{not-not}
-use Rattle.region.proofs.Pairs.{length-edges, across-inside}
+use Rattle.region.proofs.Pairs.{across-inside}
 use Rattle.region.proofs.Banding.{at-past, at-before}
-use Rattle.region.proofs.Flattening.{edges-boxes, rows-boxes, bands-spread, covers-boxes}
+use Rattle.region.proofs.Flattening.{edges-boxes, rows-boxes, bands-spread}
 
 pub nil≢cons : {A : Type 0} (x : A) (xs : List A) → [] ≡ x ∷ xs → ⊥
 nil≢cons x xs e = let z : _≡_ {A = ℕ} 0 1 = cc in omega arith

@@ -1,15 +1,15 @@
 -- The room that a sweep over the bands of two regions wants.
-use mathlib.Core.Path.{_≡_, refl, sym, _∙_, ap, ap₂, subst}
-use mathlib.Core.Bool.{Bool, true, false}
-use mathlib.Core.List.{List, [], _∷_, _++_}
+use mathlib.Core.Path.{_≡_, sym, _∙_, ap, ap₂}
+use mathlib.Core.Bool.{Bool, false}
+use mathlib.Core.List.{List, []}
 use Prim.Native.Nat.{ℕ, zero, suc, _+_, _-_, _*_, _≤_, _<_}
 use native.Mathlib.Omega.{arith}
 use native.Mathlib.Nat.{mul-comm, mul-add}
 use lib.ListN.{length, take, drop}
 use Rattle.std.proofs.shelf.Lists.{length-take-le, length-drop}
 use Rattle.geometry.specs.declared.Rect.{Rect}
-use Rattle.region.specs.Edges.{inside, Between}
-use Rattle.region.specs.Boxes.{edges, across}
+use Rattle.region.specs.Edges.{inside}
+use Rattle.region.specs.Boxes.{edges}
 use Rattle.region.specs.Bands.{row-at}
 use Rattle.region.specs.Flat.{covers, flat}
 use Rattle.region.specs.Reader.{Slab}

@@ -2,21 +2,20 @@
 use mathlib.Core.Path.{_≡_, refl, sym, _∙_, ap, ap₂, subst}
 use mathlib.Core.Bool.{Bool, true, false, not, _&&_, _||_}
 use mathlib.Core.List.{List, [], _∷_, _++_}
-use mathlib.Core.Logic.{_⊎_, inl, inr, _≢_}
+use mathlib.Core.Logic.{_≢_}
 use Prim.Native.Nat.{ℕ, zero, suc, _+_, _-_, _≤_, _<_}
 use native.Mathlib.Omega.{arith}
 use lib.Dec.{leb, ltb}
 use Rattle.std.proofs.shelf.Tests.{true≢false}
 use Rattle.std.proofs.shelf.Ways.{tells}
 use Rattle.geometry.specs.declared.Rect.{Rect}
-use Rattle.region.specs.Edges.{inside, odd, Between, Row}
-use Rattle.region.specs.Bands.{Change, row-at, last-row, Bands, Region}
+use Rattle.region.specs.Edges.{odd, Between, Row}
+use Rattle.region.specs.Bands.{Change, last-row, Bands, Region}
 use Rattle.region.specs.Flat.{covers, boxes, flat, Canonical}
 use Rattle.geometry.specs.Boxes.{blank}
 use lib.ListN.{length, getD, take, drop, set}
 use Rattle.std.proofs.shelf.Lists.{drop-more, take-more, getD-at, set-at, append-assoc, append-nil, length-take-le, take-all, drop-all}
 use Rattle.region.specs.Shift.{shifted, shifted-one, Stays, Shifts}
-use Rattle.region.proofs.Rising.{lower}
 
 -- one box, along one side: what lies in it
 along : (a b r l i : ℕ) → l ≤ a + r → (leb (a + r - l) i && ltb i (b + r - l)) ≡ (leb r (i + l) && (leb a (i + l - r) && ltb (i + l - r) b))

@@ -1,26 +1,25 @@
 -- Whether boxes are a region, found from above, band by band.
 use mathlib.Core.Path.{_≡_, refl, sym, _∙_, ap, ap₂, subst, subst₂}
-use mathlib.Core.Bool.{Bool, true, false, not, _&&_, _||_, cond}
+use mathlib.Core.Bool.{Bool, true, false, not, _&&_, cond}
 use mathlib.Core.List.{List, [], _∷_, _++_}
 use mathlib.Core.Logic.{_⊎_, inl, inr, _≢_}
-use Prim.Native.Nat.{ℕ, zero, suc, _+_, _-_, _*_, _≤_, _<_}
+use Prim.Native.Nat.{ℕ, suc, _+_, _-_, _≤_, _<_}
 use native.Mathlib.Omega.{arith}
 use lib.Dec.{eqb, leb, ltb}
 use lib.ListN.{length, getD, take, drop}
-use Rattle.std.proofs.shelf.Tests.{eq-eqb, ne-eqb, cases-lt, cases-eq, true≢false, and-parts, eqb-true}
+use Rattle.std.proofs.shelf.Tests.{eq-eqb, cases-lt, cases-eq, true≢false, and-parts, eqb-true}
 use Rattle.std.proofs.shelf.Ways.{tells}
 use Rattle.std.proofs.shelf.Lists.{drop-more, drop-all, drop-drop, length-drop, take-at, drop-at, take-append-drop}
 use Rattle.geometry.specs.declared.Rect.{Rect}
 use Rattle.geometry.specs.Boxes.{blank}
-use Rattle.region.specs.Edges.{inside, odd, Between, Row}
+use Rattle.region.specs.Edges.{Between, Row}
 use Rattle.region.specs.Boxes.{edges, Rows}
 use Rattle.region.specs.Bands.{Change, last-row, Bands, Region, same-edges}
 use Rattle.region.specs.Flat.{boxes, flat, Canonical}
 use Rattle.region.specs.Reader.{leading}
 use Rattle.region.specs.Checks.{fits-band, in-band, follows-on}
-use Rattle.region.proofs.Rising.{wider}
 use Rattle.region.proofs.Pairs.{odd-edges}
-use Rattle.region.proofs.Banding.{same-true, same-false, same-refl, lower-bands}
+use Rattle.region.proofs.Banding.{same-true, same-false, lower-bands}
 use Rattle.region.proofs.Flattening.{edges-boxes, rows-boxes, boxes-edges, bands-spread}
 use Rattle.region.proofs.Reading.{nil≢cons, head-top, head-below, leading-rows, leading-flat}
 use Rattle.region.proofs.Walks.{leading-here}

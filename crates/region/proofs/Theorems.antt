@@ -1,19 +1,15 @@
-use mathlib.Core.Path.{_≡_, refl, sym, _∙_, ap, ap₂, subst}
-use mathlib.Core.Bool.{Bool, true, false, _&&_}
-use mathlib.Core.List.{List, [], _∷_, _++_}
+use mathlib.Core.Path.{_≡_, refl, sym, _∙_, subst}
+use mathlib.Core.Bool.{false}
+use mathlib.Core.List.{List, [], _∷_}
 use mathlib.Core.Logic.{_≢_}
-use Prim.Native.Nat.{ℕ, zero, suc, _+_, _-_, _*_, _≤_, _<_}
+use Prim.Native.Nat.{ℕ, zero, suc, _*_, _≤_, _<_}
 use native.Mathlib.Omega.{arith}
-use lib.Dec.{ltb, leb}
 use lib.ListN.{length}
 use Rattle.geometry.specs.declared.Rect.{Rect}
-use Rattle.region.specs.declared.Op.{Op}
-use Rattle.region.specs.Edges.{inside, Between, Row}
-use Rattle.region.specs.Boxes.{act}
-use Rattle.region.specs.Bands.{canon, Change, Bands, Region, has, row-at}
-use Rattle.region.specs.Flat.{covers, flat, Canonical}
-use Rattle.region.specs.Lines.{Lines, Only, among, before}
-use Rattle.region.specs.Reader.{Combined}
+use Rattle.region.specs.Edges.{inside}
+use Rattle.region.specs.Bands.{canon, row-at}
+use Rattle.region.specs.Flat.{Canonical}
+use Rattle.region.specs.Lines.{Only, among, before}
 use Rattle.region.specs.Laws.{Unique, Found, found, Few, Box-is}
 use Rattle.region.proofs.Banding.{canon-region, canon-has, wider-bands}
 use Rattle.region.proofs.Building.{unique-boxes, covers-has}

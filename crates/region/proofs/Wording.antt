@@ -5,7 +5,7 @@ use mathlib.Core.Bool.{Bool, true, false, _&&_, _||_, cond}
 use Prim.Native.Nat.{ℕ, zero, suc, _+_, _-_, _*_, _/_, _%_, _≤_, _<_}
 use native.Mathlib.Omega.{arith}
 use lib.ListN.{length, getD, take, drop, set}
-use Rattle.std.proofs.shelf.Lists.{length-take, length-take-le, length-drop, length-append, drop-all, append-nil}
+use Rattle.std.proofs.shelf.Lists.{length-take-le, length-drop, drop-all, append-nil}
 use borrow.Rule.Slice.PartMut.{putMid, postOf}
 use Rattle.geometry.specs.declared.Rect.{Rect}
 use Rattle.geometry.specs.Boxes.{blank, in-rect}

@@ -2,8 +2,8 @@
 use mathlib.Core.Path.{_≡_}
 use mathlib.Core.Bool.{Bool, _&&_, cond}
 use mathlib.Core.List.{List, [], _∷_}
-use Prim.Native.Nat.{ℕ, suc, _*_, _≤_, _<_}
-use lib.Dec.{ltb, leb}
+use Prim.Native.Nat.{ℕ, suc, _*_, _≤_}
+use lib.Dec.{ltb}
 use lib.ListN.{length}
 use Rattle.geometry.specs.declared.Rect.{Rect}
 use Rattle.geometry.specs.Boxes.{in-rect}

@@ -1,15 +1,15 @@
 -- A reader that goes down a region in canonical form.
 use mathlib.Core.Path.{_≡_}
-use mathlib.Core.Bool.{Bool, true, false, not, _&&_, _||_, cond}
-use mathlib.Core.List.{List, [], _∷_, _++_}
-use Prim.Native.Nat.{ℕ, zero, suc, _-_, _≤_, _<_}
-use lib.Dec.{leb, ltb, eqb}
+use mathlib.Core.Bool.{false, cond}
+use mathlib.Core.List.{List, [], _∷_}
+use Prim.Native.Nat.{ℕ, suc, _-_, _≤_, _<_}
+use lib.Dec.{eqb}
 use lib.ListN.{length, take, drop}
 use Rattle.geometry.specs.declared.Rect.{Rect}
 use Rattle.region.specs.declared.Op.{Op}
 use Rattle.region.specs.Edges.{Between, Row, inside}
 use Rattle.region.specs.Boxes.{edges, across, none, act}
-use Rattle.region.specs.Bands.{Change, Region, Bands, row-at, last-row}
+use Rattle.region.specs.Bands.{Change, Bands, row-at, last-row}
 use Rattle.region.specs.Flat.{covers, boxes, flat, Canonical}
 
 -- the reader stands at the row y, and the boxes above that row are those before p

@@ -1,12 +1,13 @@
-// Regions: sets of dots as rows of boxes that do not overlap.
+// Regions: sets of dots of the desk as boxes that do not overlap, in one canonical form, so that equal sets are equal words.
+// In memory a box is two words, left + 65536 · top and right + 65536 · below; a region is a slice of these.
 ghost use mathlib.Core.Path.{_≡_};
-ghost use mathlib.Core.Bool.{Bool, true, false, cond};
-ghost use mathlib.Core.List.{_++_, _∷_, []};
-ghost use Prim.Native.Nat.{ℕ, suc, _+_, _-_, _*_, _/_, _%_, _^_, _<_, _≤_, min};
+ghost use mathlib.Core.Bool.{true, false, cond};
+ghost use mathlib.Core.List.{_∷_, []};
+ghost use Prim.Native.Nat.{ℕ, _+_, _-_, _*_, _/_, _%_, _^_, _<_, _≤_, min};
 ghost use lib.ListN.{length, getD, set, take, drop};
 ghost use lib.Dec.{eqb};
 ghost use Rattle.geometry.specs.Boxes.{blank};
-ghost use Rattle.region.specs.Edges.{Between, Row, inside, odd};
+ghost use Rattle.region.specs.Edges.{Between, inside};
 ghost use Rattle.region.specs.Boxes.{edges, act, across, Rows, none, placed};
 ghost use Rattle.region.specs.Bands.{same-edges};
 ghost use Rattle.region.specs.Flat.{covers, Canonical};
@@ -16,7 +17,7 @@ ghost use Rattle.region.specs.Words.{rects, one, Makes, Combines, Boxes-one};
 ghost use Rattle.region.specs.Shift.{shifted, shifted-one, Stays, steps-forth, steps-back, coming, Moves};
 ghost use Rattle.region.specs.Dots.{area, Counts, No-dots};
 ghost use Rattle.region.specs.Laws.{Unique, Found, Few, Box-is, Apart, Measured};
-ghost use Rattle.region.specs.Reader.{Rest, Slab, leading, stretched, Combined};
+ghost use Rattle.region.specs.Reader.{Rest, Slab, leading, stretched};
 ghost use Rattle.std.specs.Orderings.{Decides};
 ghost use Rattle.std.specs.Options.{Cases as BySome};
 use geometry::BLANK;
@@ -84,6 +85,7 @@ fn edge(a: &[u32], k: usize) -> u16
     if k % 2 == 0 { r.left } else { r.right }
 }
 
+// Whether a dot that is in a and in b or not is in what `op` makes of them.
 fn holds(op: Op, a: bool, b: bool) -> bool
     ensures { λ r. ⌜ r ≡ act op a b ⌝ }
 {
@@ -294,7 +296,7 @@ fn follows(above: &[u32], y: u16, band: &[u32], first: Rect) -> bool
         && !(y == first.top && same_row(above, band))
 }
 
-// Whether some boxes are a region: each band is looked at twice.
+// Whether some boxes are a region. One walk: each band is seen with the one above it.
 pub fn is_region(a: &[u32]) -> bool
     ensures { λ r. ⌜ Decides r (Canonical (rects (now (a .entry)))) ⌝ }
 {
@@ -391,7 +393,7 @@ fn moved(b: Rect, right: u16, left: u16, low: u16, up: u16) -> Rect
     }
 }
 
-// Moves each box.
+// Moves each box, so many dots to the right and down, and then to the left and up.
 fn move_boxes(s: &mut [u32], right: u16, left: u16, low: u16, up: u16)
     requires stays { ⌜ Stays right left low up (rects (now s)) ⌝ }
     requires small { ⌜ left ≤ 32768 ⌝ ∗ ⌜ up ≤ 32768 ⌝ }
@@ -452,8 +454,8 @@ fn dots_of(a: &[u32]) -> u32
     ensures { λ n. ⌜ n ≡ area (rects (now (a .entry))) ⌝ }
 {
     let mut n: u32 = 0;
-    'each: for k in 0..a.len() / 2 {
-        let r = rect_at(a, k);
+    'each: for i in 0..a.len() / 2 {
+        let r = rect_at(a, i);
         n += r.wide() as u32 * r.high() as u32;
     }
     n

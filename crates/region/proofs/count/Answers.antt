@@ -1,4 +1,4 @@
-use mathlib.Core.Path.{_≡_, _∙_}
+use mathlib.Core.Path.{_∙_}
 use Rattle.region.specs.Words.{rects}
 use Rattle.region.proofs.Measuring.{measured}
 use Rattle.region.proofs.count.Needs as need

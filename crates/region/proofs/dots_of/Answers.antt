@@ -1,8 +1,4 @@
-use mathlib.Core.Path.{_≡_, sym, _∙_}
-use Prim.Native.Nat.{ℕ, _+_, _*_}
 use native.Mathlib.Omega.{arith}
-use lib.ListN.{drop}
-use Rattle.region.specs.Dots.{area}
 use Rattle.region.specs.Words.{rects}
 use Rattle.region.proofs.Wording.{length-rects}
 use Rattle.region.proofs.Measuring.{area-step, area-less, area-none}
@@ -14,7 +10,7 @@ add-n c =
       arith,
       c .each .inv,
       area-less (rects (c .args .a .now)) (c .pre),
-      area-step (rects (c .args .a .now)) (c .each .k) (c .rect-at-r .result) (omega (arith, length-rects (c .args .a .now))) (c .rect-at-r .ensures) (c .wide .result) (c .high .result) (c .wide .ensures) (c .high .ensures),
+      area-step (rects (c .args .a .now)) (c .each .i) (c .rect-at-r .result) (omega (arith, length-rects (c .args .a .now))) (c .rect-at-r .ensures) (c .wide .result) (c .high .result) (c .wide .ensures) (c .high .ensures),
     )
 
 pub each-again : need.each-again
@@ -22,8 +18,8 @@ each-again c =
     omega (
       arith,
       c .each .inv,
-      area-step (rects (c .args .a .now)) (c .each .k) (c .rect-at-r .result) (omega (arith, length-rects (c .args .a .now))) (c .rect-at-r .ensures) (c .wide .result) (c .high .result) (c .wide .ensures) (c .high .ensures),
+      area-step (rects (c .args .a .now)) (c .each .i) (c .rect-at-r .result) (omega (arith, length-rects (c .args .a .now))) (c .rect-at-r .ensures) (c .wide .result) (c .high .result) (c .wide .ensures) (c .high .ensures),
     )
 
 pub returns : need.returns
-returns c = omega (arith, c .each .inv, area-none (rects (c .args .a .now)) (c .each .k) (omega (arith, length-rects (c .args .a .now))))
+returns c = omega (arith, c .each .inv, area-none (rects (c .args .a .now)) (c .each .i) (omega (arith, length-rects (c .args .a .now))))

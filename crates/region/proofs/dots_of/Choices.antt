@@ -6,4 +6,4 @@ use Rattle.region.specs.Words.{rects}
 use Rattle.region.proofs.dots_of.Given as given
 
 abbrev pub Inv-each : given.InvT-each
-Inv-each l = l .n + area (drop (l .k) (rects (l .a))) ≡ area (rects (l .a))
+Inv-each l = l .n + area (drop (l .i) (rects (l .a))) ≡ area (rects (l .a))

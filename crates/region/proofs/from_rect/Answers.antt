@@ -1,4 +1,3 @@
-use mathlib.Core.Path.{_≡_, _∙_}
 use native.Mathlib.Omega.{arith}
 use Rattle.region.proofs.Wording.{boxed-one}
 use Rattle.region.proofs.from_rect.Needs as need

@@ -1,8 +1,8 @@
 use mathlib.Core.Path.{_≡_, sym, _∙_, ap₂}
-use mathlib.Core.Bool.{true, false}
+use mathlib.Core.Bool.{false}
 use mathlib.Core.List.{List}
 use native.Mathlib.Omega.{arith}
-use Prim.Native.Nat.{ℕ, _+_, _-_, _*_, _/_, _≤_}
+use Prim.Native.Nat.{ℕ, _+_, _-_, _*_, _≤_}
 use borrow.Author.Needs.{needs}
 use lib.ListN.{length, drop, take}
 use Rattle.std.proofs.shelf.Lists.{length-drop}
@@ -12,7 +12,7 @@ use Rattle.region.specs.Reader.{leading}
 use Rattle.region.specs.Checks.{follows-on}
 use Rattle.region.specs.Words.{rects}
 use Rattle.region.proofs.Wording.{length-rects, rects-part}
-use Rattle.region.proofs.Testing.{Tested, tested-start, tested-step, tested-stop, tested-end, band-on, leading-short}
+use Rattle.region.proofs.Testing.{tested-start, tested-step, tested-stop, tested-end, band-on, leading-short}
 use Rattle.region.proofs.is_region.Needs as need
 
 pub bands-holds : need.bands-holds

@@ -1,7 +1,5 @@
 use native.Mathlib.Omega.{arith}
-use mathlib.Core.Path.{_≡_, sym, _∙_, ap}
-use lib.ListN.{getD}
-use Prim.Native.Nat.{ℕ}
+use mathlib.Core.Path.{sym, _∙_, ap}
 use Rattle.geometry.specs.declared.Rect.{Rect}
 use Rattle.region.specs.Words.{rects}
 use Rattle.region.proofs.Wording.{length-rects}

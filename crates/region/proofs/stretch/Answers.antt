@@ -1,5 +1,5 @@
 use native.Mathlib.Omega.{arith}
-use mathlib.Core.Path.{_≡_, sym, _∙_, ap}
+use mathlib.Core.Path.{_∙_, ap}
 use lib.ListN.{set}
 use Rattle.geometry.specs.declared.Rect.{Rect}
 use Rattle.region.specs.Words.{rects}

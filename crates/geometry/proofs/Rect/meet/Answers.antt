@@ -1,6 +1,5 @@
-use mathlib.Core.Path.{_≡_, _∙_}
+use mathlib.Core.Path.{_∙_}
 use native.Mathlib.Omega.{arith}
-use borrow.Author.Needs.{needs}
 use Rattle.geometry.proofs.Spans.{rect-meet, neat-more}
 use Rattle.geometry.proofs.Rect.meet.Needs as need
 
