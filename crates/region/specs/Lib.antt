@@ -1,0 +1,11 @@
+pub mod Edges
+pub mod Boxes
+pub mod Bands
+pub mod Flat
+pub mod Reader
+pub mod Lines
+pub mod Laws
+pub mod Shift
+pub mod Words
+pub mod Checks
+pub mod Dots
