@@ -34,7 +34,7 @@ near-range : (z : ℤ) → Near z → (negℤ (pos 32768) ≤ℤ z) × (z <ℤ p
 unfolding Near
 near-range z n = (n .0, omega (arith, ints, n .1))
 
-near-from : (z : ℤ) → negℤ (pos 32768) ≤ℤ z → z <ℤ pos 32768 → Near z
+pub near-from : (z : ℤ) → negℤ (pos 32768) ≤ℤ z → z <ℤ pos 32768 → Near z
 unfolding Near
 near-from z a b = (a, omega (arith, ints))
 
@@ -42,7 +42,7 @@ far-range : (z : ℤ) → Far z → (negℤ (pos 2147483648) ≤ℤ z) × (z <�
 unfolding Far
 far-range z n = (n .0, omega (arith, ints, n .1))
 
-far-from : (z : ℤ) → negℤ (pos 2147483648) ≤ℤ z → z <ℤ pos 2147483648 → Far z
+pub far-from : (z : ℤ) → negℤ (pos 2147483648) ≤ℤ z → z <ℤ pos 2147483648 → Far z
 unfolding Far
 far-from z a b = (a, omega (arith, ints))
 

@@ -5,3 +5,5 @@ mod Rows
 mod Signs
 mod Tests
 mod FieldLaws
+mod FieldFaults
+mod Sequences
