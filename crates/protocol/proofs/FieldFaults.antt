@@ -49,7 +49,7 @@ wrong p f bs k o h v fit not =
         ap (λ n. take (suc n) (drop (k + o) bs) ++ t) z ∙ ap (λ m. take 1 m ++ t) (drop-more bs (k + o) 0 l)
 
 -- the byte that a list begins with
-heads : (a b : ℕ) (s t : List ℕ) → a ∷ s ≡ b ∷ t → a ≡ b
+pub heads : (a b : ℕ) (s t : List ℕ) → a ∷ s ≡ b ∷ t → a ≡ b
 heads a b s t e = ap (λ l. getD l 0 0) e
 
 -- Rows of zeros, to fill up what is missing.

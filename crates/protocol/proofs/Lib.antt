@@ -7,3 +7,4 @@ mod Tests
 mod FieldLaws
 mod FieldFaults
 mod Sequences
+mod EventLaws

@@ -68,7 +68,7 @@ all-only (f ∷ fs) m p bs k o h b r whole =
       (λ j _ q. absurd (err-not-ok r j q)) whole
 
 -- fields that say anything
-some-all : (fs : List Field) (p : ℕ) → 0 < p → (vs : Values fs) × Fits p fs vs
+pub some-all : (fs : List Field) (p : ℕ) → 0 < p → (vs : Values fs) × Fits p fs vs
 some-all [] p h = (tt, tt)
 some-all (f ∷ fs) p h = let r = some-all fs p h in ((some f, r .0), (some-fits f p h, r .1))
 
@@ -87,7 +87,7 @@ same-said f p v w s t a b e =
         (sym (field-reads f p v (spell f v ++ s) s 0 0 a z refl) ∙ field-reads f p w (spell f v ++ s) t 0 0 b z e))
 
 -- the first bytes of a row that begins with xs, and goes on from the byte `to` on
-past : (bs xs : List ℕ) (i to n : ℕ) → to ≡ i + length xs → drop i bs ≡ xs ++ drop to bs → to ≤ n → take (n - i) (drop i bs) ≡ xs ++ take (n - to) (drop to bs)
+pub past : (bs xs : List ℕ) (i to n : ℕ) → to ≡ i + length xs → drop i bs ≡ xs ++ drop to bs → to ≤ n → take (n - i) (drop i bs) ≡ xs ++ take (n - to) (drop to bs)
 past bs xs i to n l e h =
     let z : n - i ≡ length xs + (n - to) = omega arith in
     ap (λ m. take m (drop i bs)) z ∙ ap (take (length xs + (n - to))) e ∙ take-append-add xs (drop to bs) (n - to)
