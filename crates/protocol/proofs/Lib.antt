@@ -8,3 +8,4 @@ mod FieldLaws
 mod FieldFaults
 mod Sequences
 mod EventLaws
+mod WordLaws

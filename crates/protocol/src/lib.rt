@@ -7,6 +7,7 @@ ghost use Rattle.protocol.specs.Added.{Wrote};
 ghost use Rattle.protocol.specs.Formats.{read-event, read-told, encode, encode-word};
 ghost use Rattle.protocol.specs.Meaning.{said, told-said, built-of, meaning, word-meaning, had, word-had};
 mod events;
+mod laws;
 mod numbers;
 mod push;
 mod tell;
@@ -14,6 +15,8 @@ mod told;
 mod types;
 mod write;
 
+pub use laws::events_stand;
+pub use laws::words_stand;
 pub use types::Event;
 pub use types::Fault;
 pub use types::Kinds;
