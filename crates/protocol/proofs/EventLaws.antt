@@ -124,11 +124,11 @@ event-reads built p e bs t k s h d =
     ∙ ap (λ m. Ok (e, m)) n
 
 -- what is known of an event that was read
-record Was (built : ℕ → Bool) (p : ℕ) (bs : List ℕ) (k : ℕ) (r : Event × ℕ) : Type 0 where
-  sent : Sent built p (r .0)
-  after : k < r .1
-  within : r .1 ≤ length bs
-  spelt : drop k bs ≡ encode (r .0) ++ drop (r .1) bs
+pub record Was (built : ℕ → Bool) (p : ℕ) (bs : List ℕ) (k : ℕ) (r : Event × ℕ) : Type 0 where
+  pub sent : Sent built p (r .0)
+  pub after : k < r .1
+  pub within : r .1 ≤ length bs
+  pub spelt : drop k bs ≡ encode (r .0) ++ drop (r .1) bs
 
 event-only : (built : ℕ → Bool) (p : ℕ) (bs : List ℕ) (k : ℕ) → Bytes bs → (r : Event × ℕ) → decode-event built p bs k ≡ Ok r → Was built p bs k r
 event-only built p bs k b r =
@@ -232,7 +232,7 @@ event-faults built p bs k b h pos c j =
 short : (built : ℕ → Bool) (p : ℕ) (bs : List ℕ) (k : ℕ) → length bs < 4294967296 → read-event built p bs k ≡ decode-event built p bs k
 short built p bs k l = ap (λ b. pick b (Err 4294967295) (decode-event built p bs k)) (lt-leb 4294967296 (length bs) l)
 
-read-was : (built : ℕ → Bool) (p : ℕ) (bs : List ℕ) (k : ℕ) → Bytes bs → (r : Event × ℕ) → read-event built p bs k ≡ Ok r → Was built p bs k r
+pub read-was : (built : ℕ → Bool) (p : ℕ) (bs : List ℕ) (k : ℕ) → Bytes bs → (r : Event × ℕ) → read-event built p bs k ≡ Ok r → Was built p bs k r
 read-was built p bs k b r =
     by-pick (leb 4294967296 (length bs)) _ _ (λ x. x ≡ Ok r → Was built p bs k r) (λ _ q. absurd (err-not-ok r 4294967295 q)) (λ _ q. event-only built p bs k b r q)
 

@@ -1,11 +1,12 @@
-mod Adding
+pub mod Adding
 mod ByKind
-mod Digits
-mod Rows
+pub mod Digits
+mod Ends
+pub mod EventLaws
+mod FieldFaults
+mod FieldLaws
+pub mod Rows
+mod Sequences
 mod Signs
 mod Tests
-mod FieldLaws
-mod FieldFaults
-mod Sequences
-mod EventLaws
-mod WordLaws
+pub mod WordLaws

@@ -73,7 +73,7 @@ back q h =
 abbrev by-bytes : List ℕ → ℕ → ℕ → ℕ → Found (ℕ × Word)
 by-bytes bs k c x = pick (ltb x 7) (told c (decode-word-kind x bs k)) (Err (k + 1))
 
-by-told : (c : ℕ) (x : Found Word) (P : Found (ℕ × Word) → Type 0) → ((y : Word × ℕ) → x ≡ Ok y → P (Ok ((c, y .0), y .1))) → ((j : ℕ) → x ≡ Err j → P (Err j)) → P (told c x)
+pub by-told : (c : ℕ) (x : Found Word) (P : Found (ℕ × Word) → Type 0) → ((y : Word × ℕ) → x ≡ Ok y → P (Ok ((c, y .0), y .1))) → ((j : ℕ) → x ≡ Err j → P (Err j)) → P (told c x)
 by-told c (Ok y) P f g = f y refl
 by-told c (Err j) P f g = g j refl
 
@@ -102,11 +102,11 @@ two-front bs k l =
     one-more bs k (k + 1) (omega arith) refl ∙ ap (λ t. getD bs k 0 ∷ t) (one-more bs (k + 1) (k + 2) (omega arith) (omega arith))
 
 -- what is known of a word that was read
-record Was (bs : List ℕ) (k : ℕ) (r : (ℕ × Word) × ℕ) : Type 0 where
-  sent : Told (r .0)
-  after : k < r .1
-  within : r .1 ≤ length bs
-  spelt : drop k bs ≡ spell-told (r .0) ++ drop (r .1) bs
+pub record Was (bs : List ℕ) (k : ℕ) (r : (ℕ × Word) × ℕ) : Type 0 where
+  pub sent : Told (r .0)
+  pub after : k < r .1
+  pub within : r .1 ≤ length bs
+  pub spelt : drop k bs ≡ spell-told (r .0) ++ drop (r .1) bs
 
 word-only : (bs : List ℕ) (k : ℕ) → Bytes bs → (r : (ℕ × Word) × ℕ) → decode-word bs k ≡ Ok r → Was bs k r
 word-only bs k b r =
@@ -219,7 +219,7 @@ word-faults bs k b h j =
 short : (bs : List ℕ) (k : ℕ) → length bs < 4294967296 → read-told bs k ≡ decode-word bs k
 short bs k l = ap (λ b. pick b (Err 4294967295) (decode-word bs k)) (lt-leb 4294967296 (length bs) l)
 
-read-was : (bs : List ℕ) (k : ℕ) → Bytes bs → (r : (ℕ × Word) × ℕ) → read-told bs k ≡ Ok r → Was bs k r
+pub read-was : (bs : List ℕ) (k : ℕ) → Bytes bs → (r : (ℕ × Word) × ℕ) → read-told bs k ≡ Ok r → Was bs k r
 read-was bs k b r =
     by-pick (leb 4294967296 (length bs)) _ _ (λ x. x ≡ Ok r → Was bs k r) (λ _ q. absurd (err-not-ok r 4294967295 q)) (λ _ q. word-only bs k b r q)
 

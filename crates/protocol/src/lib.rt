@@ -5,7 +5,7 @@ ghost use lib.Dec.{ltb};
 ghost use lib.ListN.{length};
 ghost use Rattle.protocol.specs.Added.{Wrote};
 ghost use Rattle.protocol.specs.Formats.{read-event, read-told, encode, encode-word};
-ghost use Rattle.protocol.specs.Meaning.{said, told-said, built-of, meaning, word-meaning, had, word-had};
+ghost use Rattle.protocol.specs.Meaning.{Ends, said, told-said, built-of, meaning, word-meaning, had, word-had};
 mod events;
 mod laws;
 mod numbers;
@@ -37,7 +37,8 @@ impl Kinds {
 
 // The event at the byte `at` of a call and where it ends, or the first byte in fault.
 pub fn read(call: &[u8], at: usize, programs: u8, kinds: Kinds) -> Result<(Event, usize), Fault>
-    ensures { λ r. ⌜ said (now (call .entry)) r ≡ read-event (built-of kinds) programs (now (call .entry)) at ⌝ }
+    ensures value { λ r. ⌜ said (now (call .entry)) r ≡ read-event (built-of kinds) programs (now (call .entry)) at ⌝ }
+    ensures ends { λ r. ⌜ Ends (now (call .entry)) at r ⌝ }
 {
     if call.len() >= CALL_END {
         return Err(Fault { place: CALL_END - 1 });
@@ -54,7 +55,8 @@ pub fn read(call: &[u8], at: usize, programs: u8, kinds: Kinds) -> Result<(Event
 
 // The word at the byte `at` of a row, with the program that is told it, and where it ends; or the first byte in fault.
 pub fn read_word(words: &[u8], at: usize) -> Result<((u8, Word), usize), Fault>
-    ensures { λ r. ⌜ told-said (now (words .entry)) r ≡ read-told (now (words .entry)) at ⌝ }
+    ensures value { λ r. ⌜ told-said (now (words .entry)) r ≡ read-told (now (words .entry)) at ⌝ }
+    ensures ends { λ r. ⌜ Ends (now (words .entry)) at r ⌝ }
 {
     if words.len() >= CALL_END {
         return Err(Fault { place: CALL_END - 1 });
