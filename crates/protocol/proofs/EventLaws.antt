@@ -86,20 +86,20 @@ back : (p q : ℕ) → q < 13 → Backs p q
 unfolding kind Carried
 back p q h =
     below-13 (Backs p)
-      (λ vs f. record { carried = (f .0, f .1 .0, f .1 .1 .0, f .1 .1 .1 .0, f .1 .1 .1 .1 .0); of-kind = refl; spelt = refl })
-      (λ vs f. record { carried = (f .0, f .1 .0); of-kind = refl; spelt = refl })
-      (λ vs f. record { carried = (f .0, f .1 .0, f .1 .1 .0, f .1 .1 .1 .0); of-kind = refl; spelt = refl })
-      (λ vs f. record { carried = (f .0, f .1 .0); of-kind = refl; spelt = refl })
-      (λ vs f. record { carried = (f .0, f .1 .0); of-kind = refl; spelt = refl })
-      (λ vs f. record { carried = (f .0, f .1 .0, f .1 .1 .0, f .1 .1 .1 .0, f .1 .1 .1 .1 .0, f .1 .1 .1 .1 .1 .0, f .1 .1 .1 .1 .1 .1 .0); of-kind = refl; spelt = refl })
-      (λ vs f. record { carried = (f .0, f .1 .0, f .1 .1 .0, f .1 .1 .1 .0, f .1 .1 .1 .1 .0); of-kind = refl; spelt = refl })
-      (λ vs f. record { carried = (f .0, f .1 .0, f .1 .1 .0, f .1 .1 .1 .0, f .1 .1 .1 .1 .0, f .1 .1 .1 .1 .1 .0, f .1 .1 .1 .1 .1 .1 .0, f .1 .1 .1 .1 .1 .1 .1 .0); of-kind = refl; spelt = refl })
-      (λ vs f. record { carried = (f .0, f .1 .0); of-kind = refl; spelt = refl })
-      (λ vs f. record { carried = (f .0, f .1 .0); of-kind = refl; spelt = refl })
-      (λ vs f. record { carried = tt; of-kind = refl; spelt = refl })
-      (λ vs f. record { carried = f .0; of-kind = refl; spelt = refl })
-      (λ vs f. record { carried = tt; of-kind = refl; spelt = refl })
-      q h
+    (λ vs f. record { carried = (f .0, f .1 .0, f .1 .1 .0, f .1 .1 .1 .0, f .1 .1 .1 .1 .0); of-kind = refl; spelt = refl })
+    (λ vs f. record { carried = (f .0, f .1 .0); of-kind = refl; spelt = refl })
+    (λ vs f. record { carried = (f .0, f .1 .0, f .1 .1 .0, f .1 .1 .1 .0); of-kind = refl; spelt = refl })
+    (λ vs f. record { carried = (f .0, f .1 .0); of-kind = refl; spelt = refl })
+    (λ vs f. record { carried = (f .0, f .1 .0); of-kind = refl; spelt = refl })
+    (λ vs f. record { carried = (f .0, f .1 .0, f .1 .1 .0, f .1 .1 .1 .0, f .1 .1 .1 .1 .0, f .1 .1 .1 .1 .1 .0, f .1 .1 .1 .1 .1 .1 .0); of-kind = refl; spelt = refl })
+    (λ vs f. record { carried = (f .0, f .1 .0, f .1 .1 .0, f .1 .1 .1 .0, f .1 .1 .1 .1 .0); of-kind = refl; spelt = refl })
+    (λ vs f. record { carried = (f .0, f .1 .0, f .1 .1 .0, f .1 .1 .1 .0, f .1 .1 .1 .1 .0, f .1 .1 .1 .1 .1 .0, f .1 .1 .1 .1 .1 .1 .0, f .1 .1 .1 .1 .1 .1 .1 .0); of-kind = refl; spelt = refl })
+    (λ vs f. record { carried = (f .0, f .1 .0); of-kind = refl; spelt = refl })
+    (λ vs f. record { carried = (f .0, f .1 .0); of-kind = refl; spelt = refl })
+    (λ vs f. record { carried = tt; of-kind = refl; spelt = refl })
+    (λ vs f. record { carried = f .0; of-kind = refl; spelt = refl })
+    (λ vs f. record { carried = tt; of-kind = refl; spelt = refl })
+    q h
 
 -- the answer where the kind's byte is x
 abbrev by-kind : (ℕ → Bool) → ℕ → List ℕ → ℕ → ℕ → Found Event
@@ -134,10 +134,10 @@ event-only : (built : ℕ → Bool) (p : ℕ) (bs : List ℕ) (k : ℕ) → Byte
 event-only built p bs k b r =
     let g = getD bs k 0 in
     by-there bs (k + 1) _ (λ x. x ≡ Ok r → Was built p bs k r)
-      (λ l. by-pick (ltb g 13 && built g) _ _ (λ x. x ≡ Ok r → Was built p bs k r)
-        (λ t q. was l (and-parts (ltb g 13) (built g) t) (all-only (event-format g .fields) (event-format g .says) p bs k 1 l b r q))
-        (λ t q. absurd (err-not-ok r k q)))
-      (λ l q. absurd (err-not-ok r (length bs) q))
+    (λ l. by-pick (ltb g 13 && built g) _ _ (λ x. x ≡ Ok r → Was built p bs k r)
+    (λ t q. was l (and-parts (ltb g 13) (built g) t) (all-only (event-format g .fields) (event-format g .says) p bs k 1 l b r q))
+    (λ t q. absurd (err-not-ok r k q)))
+    (λ l q. absurd (err-not-ok r (length bs) q))
   where
     was : k + 1 ≤ length bs → (ltb (getD bs k 0) 13 ≡ true) × (built (getD bs k 0) ≡ true) →
         All-got p (event-format (getD bs k 0) .fields) (event-format (getD bs k 0) .says) bs k 1 r → Was built p bs k r
@@ -146,9 +146,10 @@ event-only built p bs k b r =
         let fs = event-format g .fields in
         let k′ = back p g (ltb-true g 13 (on .0)) (a .values) (a .fits) in
         let P : Event → Type 0 = λ e. Sent built p e × (drop k bs ≡ encode e ++ drop (r .1) bs) in
-        let w = subst P (a .is)
-          ((k′ .carried, ap built (k′ .of-kind) ∙ on .1),
-           one-more bs k (k + 1) (omega arith) refl ∙ ap (λ t. g ∷ t) (a .spelt) ∙ ap (λ t. t ++ drop (r .1) bs) (sym (k′ .spelt))) in
+        let w = subst P (a .is) (
+          (k′ .carried, ap built (k′ .of-kind) ∙ on .1),
+          one-more bs k (k + 1) (omega arith) refl ∙ ap (λ t. g ∷ t) (a .spelt) ∙ ap (λ t. t ++ drop (r .1) bs) (sym (k′ .spelt)),
+        ) in
         record { sent = w .0; after = omega (arith, a .from); within = a .within; spelt = w .1 }
 
 -- some event of a kind that is built
@@ -171,39 +172,47 @@ event-faults : (built : ℕ → Bool) (p : ℕ) (bs : List ℕ) (k : ℕ) → By
 event-faults built p bs k b h pos c j =
     let g = getD bs k 0 in
     by-there bs (k + 1) _ (λ x. x ≡ Err j → Fault-at built p bs k j)
-      (λ l. by-pick (ltb g 13 && built g) _ _ (λ x. x ≡ Err j → Fault-at built p bs k j)
-        (λ t q. inside l (and-parts (ltb g 13) (built g) t) (all-faults (event-format g .fields) (event-format g .says) p bs k 1 l b pos j q))
-        (λ t q. subst (Fault-at built p bs k) (err-same {A = Event} k j q) (at-kind l t)))
-      (λ l q. subst (Fault-at built p bs k) (err-same {A = Event} (length bs) j q) (at-end l))
+    (λ l. by-pick (ltb g 13 && built g) _ _ (λ x. x ≡ Err j → Fault-at built p bs k j)
+    (λ t q. inside l (and-parts (ltb g 13) (built g) t) (all-faults (event-format g .fields) (event-format g .says) p bs k 1 l b pos j q))
+    (λ t q. subst (Fault-at built p bs k) (err-same {A = Event} k j q) (at-kind l t)))
+    (λ l q. subst (Fault-at built p bs k) (err-same {A = Event} (length bs) j q) (at-end l))
   where
     e0 : (e : Event) × Sent built p e
     e0 = some-event built p pos c
+
     -- the bytes from k on up to n, with the kind's byte in front
     front : (n : ℕ) → k + 1 ≤ length bs → k + 1 ≤ n → take (n - k) (drop k bs) ≡ getD bs k 0 ∷ take (n - (k + 1)) (drop (k + 1) bs)
     front n l m = past bs (getD bs k 0 ∷ []) k (k + 1) n refl (one-more bs k (k + 1) (omega arith) refl) m
+
     at-end : length bs < k + 1 → Fault-at built p bs k (length bs)
     at-end l =
         record {
-          from = h; within = omega arith;
+          from = h;
+          within = omega arith;
           before = (e0 .0, e0 .1, (encode (e0 .0), ap (λ t. t ++ encode (e0 .0)) (take-rest bs k ∙ drop-all k bs (omega arith))));
-          here = λ m _ _ _. omega arith }
+          here = λ m _ _ _. omega arith;
+        }
+
     at-kind : k + 1 ≤ length bs → (ltb (getD bs k 0) 13 && built (getD bs k 0)) ≡ false → Fault-at built p bs k k
     at-kind l off =
         let z : k - k ≡ 0 = omega arith in
         record {
-          from = omega arith; within = h;
+          from = omega arith;
+          within = h;
           before = (e0 .0, e0 .1, (encode (e0 .0), ap (λ n. take n (drop k bs) ++ encode (e0 .0)) z));
           here = λ m e s w.
-            let v = view p e (s .0) in
-            let g = getD bs k 0 in
-            let z1 : suc (k - k) ≡ k + 1 - k = omega arith in
-            let z2 : k + 1 - (k + 1) ≡ 0 = omega arith in
-            let f : take (suc (k - k)) (drop k bs) ≡ g ∷ [] =
+              let v = view p e (s .0) in
+              let g = getD bs k 0 in
+              let z1 : suc (k - k) ≡ k + 1 - k = omega arith in
+              let z2 : k + 1 - (k + 1) ≡ 0 = omega arith in
+              let f : take (suc (k - k)) (drop k bs) ≡ g ∷ [] =
               ap (λ n. take n (drop k bs)) z1 ∙ front (k + 1) l (omega arith) ∙ ap (λ n. g ∷ take n (drop (k + 1) bs)) z2 in
-            let same : g ≡ v .q = heads g (v .q) (w .0) (bytes (event-format (v .q) .fields) (v .values)) (sym (ap (λ t. t ++ w .0) f) ∙ w .1 ∙ v .spelt) in
-            let on : (ltb g 13 && built g) ≡ true =
+              let same : g ≡ v .q = heads g (v .q) (w .0) (bytes (event-format (v .q) .fields) (v .values)) (sym (ap (λ t. t ++ w .0) f) ∙ w .1 ∙ v .spelt) in
+              let on : (ltb g 13 && built g) ≡ true =
               ap (λ q. ltb q 13 && built q) same ∙ and-from (ltb (v .q) 13) (built (v .q)) (lt-ltb (v .q) 13 (v .low)) (sym (ap built (v .of-kind)) ∙ s .1) in
-            both-ways (ltb g 13 && built g) off on }
+              both-ways (ltb g 13 && built g) off on;
+        }
+
     inside : k + 1 ≤ length bs → (ltb (getD bs k 0) 13 ≡ true) × (built (getD bs k 0) ≡ true) → All-bad p (event-format (getD bs k 0) .fields) bs k 1 j → Fault-at built p bs k j
     inside l on d =
         let g = getD bs k 0 in
@@ -212,21 +221,26 @@ event-faults built p bs k b h pos c j =
         let t = d .before .1 in
         let k′ = back p g (ltb-true g 13 (on .0)) vs (d .before .2) in
         record {
-          from = omega (arith, d .from); within = d .within;
-          before = (apply fs (event-format g .says) vs, (k′ .carried, ap built (k′ .of-kind) ∙ on .1),
-            (t, ap (λ l. l ++ t) (front j l (d .from)) ∙ ap (λ l. g ∷ l) (d .before .3) ∙ sym (k′ .spelt)));
+          from = omega (arith, d .from);
+          within = d .within;
+          before = (
+            apply fs (event-format g .says) vs,
+            (k′ .carried, ap built (k′ .of-kind) ∙ on .1),
+            (t, ap (λ l. l ++ t) (front j l (d .from)) ∙ ap (λ l. g ∷ l) (d .before .3) ∙ sym (k′ .spelt)),
+          );
           here = λ m e s w.
-            let v = view p e (s .0) in
-            let z1 : suc (j - k) ≡ suc j - k = omega (arith, d .from) in
-            let z2 : suc j - (k + 1) ≡ suc (j - (k + 1)) = omega (arith, d .from) in
-            let rest = take (suc (j - (k + 1))) (drop (k + 1) bs) in
-            let f : take (suc (j - k)) (drop k bs) ≡ g ∷ rest =
+              let v = view p e (s .0) in
+              let z1 : suc (j - k) ≡ suc j - k = omega (arith, d .from) in
+              let z2 : suc j - (k + 1) ≡ suc (j - (k + 1)) = omega (arith, d .from) in
+              let rest = take (suc (j - (k + 1))) (drop (k + 1) bs) in
+              let f : take (suc (j - k)) (drop k bs) ≡ g ∷ rest =
               ap (λ n. take n (drop k bs)) z1 ∙ front (suc j) l (omega (arith, d .from)) ∙ ap (λ n. g ∷ take n (drop (k + 1) bs)) z2 in
-            let e1 : g ∷ (rest ++ w .0) ≡ v .q ∷ bytes (event-format (v .q) .fields) (v .values) = sym (ap (λ t. t ++ w .0) f) ∙ w .1 ∙ v .spelt in
-            let same : g ≡ v .q = heads g (v .q) (rest ++ w .0) (bytes (event-format (v .q) .fields) (v .values)) e1 in
-            let P : ℕ → Type 0 = λ q. All-bad p (event-format q .fields) bs k 1 j in
-            let tails : rest ++ w .0 ≡ bytes (event-format (v .q) .fields) (v .values) = ap (drop 1) e1 in
-            subst P same d .here m (v .values) (w .0) [] (v .fits) (tails ∙ sym (append-nil (bytes (event-format (v .q) .fields) (v .values)))) }
+              let e1 : g ∷ (rest ++ w .0) ≡ v .q ∷ bytes (event-format (v .q) .fields) (v .values) = sym (ap (λ t. t ++ w .0) f) ∙ w .1 ∙ v .spelt in
+              let same : g ≡ v .q = heads g (v .q) (rest ++ w .0) (bytes (event-format (v .q) .fields) (v .values)) e1 in
+              let P : ℕ → Type 0 = λ q. All-bad p (event-format q .fields) bs k 1 j in
+              let tails : rest ++ w .0 ≡ bytes (event-format (v .q) .fields) (v .values) = ap (drop 1) e1 in
+              subst P same d .here m (v .values) (w .0) [] (v .fits) (tails ∙ sym (append-nil (bytes (event-format (v .q) .fields) (v .values))));
+        }
 
 -- a call that is short enough
 short : (built : ℕ → Bool) (p : ℕ) (bs : List ℕ) (k : ℕ) → length bs < 4294967296 → read-event built p bs k ≡ decode-event built p bs k
@@ -241,7 +255,7 @@ unfolding Reads-back
 reads-back built p e before behind s l =
     short built p (before ++ (encode e ++ behind)) (length before) l
     ∙ event-reads built p e (before ++ (encode e ++ behind)) behind (length before) s (omega (arith, length-append before (encode e ++ behind)))
-        (drop-at before (encode e ++ behind) (length before) refl)
+    (drop-at before (encode e ++ behind) (length before) refl)
 
 pub reads-only : Reads-only
 unfolding Reads-only
@@ -255,8 +269,12 @@ faults-first built p bs k j b l h pos c q =
     let d = sym (short built p bs k l) ∙ q in
     let f = event-faults built p bs k b h pos c j d in
     record {
-      from = f .from; within = f .within; before = f .before; here = f .here;
-      none = λ e s w. ok-not-err (e, k + length (encode e)) j (sym (event-reads built p e bs (w .0) k s h (w .1)) ∙ d) }
+      from = f .from;
+      within = f .within;
+      before = f .before;
+      here = f .here;
+      none = λ e s w. ok-not-err (e, k + length (encode e)) j (sym (event-reads built p e bs (w .0) k s h (w .1)) ∙ d);
+    }
 
 pub faults-where-none : Faults-where-none
 unfolding Faults-where-none

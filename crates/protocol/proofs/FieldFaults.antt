@@ -28,9 +28,11 @@ pub record Bad (p : ℕ) (f : Field) (bs : List ℕ) (k o j : ℕ) : Type 0 wher
 missing : (p : ℕ) (f : Field) (bs : List ℕ) (k o : ℕ) → k + o ≤ length bs → (v : Says f) (t : List ℕ) → Fit p f v → drop (k + o) bs ++ t ≡ spell f v → Bad p f bs k o (length bs)
 missing p f bs k o h v t fit e =
     record {
-      from = h; within = omega arith;
+      from = h;
+      within = omega arith;
       before = (v, t, fit, ap (λ l. l ++ t) (take-rest bs (k + o)) ∙ e);
-      here = λ l _ _ _ _ _. omega arith }
+      here = λ l _ _ _ _ _. omega arith;
+    }
 
 -- the byte that stands there is one that no such field begins with
 wrong : (p : ℕ) (f : Field) (bs : List ℕ) (k o : ℕ) → k + (o + 1) ≤ length bs → (v : Says f) → Fit p f v →
@@ -39,9 +41,11 @@ wrong p f bs k o h v fit not =
     let i = k + o in
     let z : i - i ≡ 0 = omega arith in
     record {
-      from = omega arith; within = omega arith;
+      from = omega arith;
+      within = omega arith;
       before = (v, spell f v, fit, ap (λ n. take n (drop i bs) ++ spell f v) z);
-      here = λ l w t u g e. not w t u g (sym (first l t) ∙ e) }
+      here = λ l w t u g e. not w t u g (sym (first l t) ∙ e);
+    }
   where
     first : k + o < length bs → (t : List ℕ) → take (suc (k + o - (k + o))) (drop (k + o) bs) ++ t ≡ getD bs (k + o) 0 ∷ t
     first l t =
@@ -121,7 +125,7 @@ count-missing p bs k o w h b l =
     let v = replicate n 0 in
     let lv : length v ≡ n = length-replicate n 0 in
     missing p (row w) bs k o h v (c .1 ++ all-digits w v) (omega (arith, c .2), zeros-small w n)
-      (sym (append-assoc xs (c .1) (all-digits w v)) ∙ ap (λ t. t ++ all-digits w v) (c .3) ∙ ap (λ m. digits 2 m ++ all-digits w v) (sym lv))
+    (sym (append-assoc xs (c .1) (all-digits w v)) ∙ ap (λ t. t ++ all-digits w v) (c .3) ∙ ap (λ m. digits 2 m ++ all-digits w v) (sym lv))
 
 elements-missing : (p : ℕ) (bs : List ℕ) (k o w : ℕ) → k + o ≤ length bs → Bytes bs → k + (o + 2) ≤ length bs → length bs < k + (o + 2 + w * number 2 (drop (k + o) bs)) →
     Bad p (row w) bs k o (length bs)
@@ -143,53 +147,53 @@ elements-missing p bs k o w h b l m =
     let two : take 2 xs ≡ digits 2 n = sym (digits-number 2 xs lx (bytes-drop (k + o) bs b)) in
     let cut : xs ≡ digits 2 n ++ ys = some-more bs (k + o) 2 (k + (o + 2)) (omega arith) ∙ ap (λ t. t ++ ys) two in
     missing p (row w) bs k o h v t (omega (arith, number-small 2 xs (bytes-drop (k + o) bs b)), numbers-small w n zs bz)
-      (ap (λ l. l ++ t) cut ∙ append-assoc (digits 2 n) ys t ∙ ap (λ l. digits 2 n ++ l) all ∙ ap (λ m. digits 2 m ++ all-digits w v) (sym lv))
+    (ap (λ l. l ++ t) cut ∙ append-assoc (digits 2 n) ys t ∙ ap (λ l. digits 2 n ++ l) all ∙ ap (λ m. digits 2 m ++ all-digits w v) (sym lv))
 
 pub field-faults : (f : Field) (p : ℕ) (bs : List ℕ) (k o : ℕ) → k + o ≤ length bs → Bytes bs → 0 < p → (j : ℕ) → field f p bs k o ≡ Err j → Bad p f bs k o j
 field-faults program p bs k o h b pos j =
     let g = getD bs (k + o) 0 in
     by-there bs (k + (o + 1)) _ (λ x. x ≡ Err j → Bad p program bs k o j)
-      (λ l. by-pick (ltb g p) _ _ (λ x. x ≡ Err j → Bad p program bs k o j)
-        (λ _ q. absurd (ok-not-err _ j q))
-        (λ t q. subst (Bad p program bs k o) (err-same {A = ℕ} (k + o) j q)
-          (wrong p program bs k o l 0 pos (λ v s u fit e. omega (arith, heads g v s u e, ltb-false g p t, fit)))))
-      (λ l q. subst (Bad p program bs k o) (err-same {A = ℕ} (length bs) j q) (missing p program bs k o h 0 (0 ∷ []) pos (none-left bs k o 0 l)))
+    (λ l. by-pick (ltb g p) _ _ (λ x. x ≡ Err j → Bad p program bs k o j)
+    (λ _ q. absurd (ok-not-err _ j q))
+    (λ t q. subst (Bad p program bs k o) (err-same {A = ℕ} (k + o) j q)
+    (wrong p program bs k o l 0 pos (λ v s u fit e. omega (arith, heads g v s u e, ltb-false g p t, fit)))))
+    (λ l q. subst (Bad p program bs k o) (err-same {A = ℕ} (length bs) j q) (missing p program bs k o h 0 (0 ∷ []) pos (none-left bs k o 0 l)))
 field-faults byte p bs k o h b pos j =
     by-there bs (k + (o + 1)) _ (λ x. x ≡ Err j → Bad p byte bs k o j)
-      (λ l q. absurd (ok-not-err _ j q))
-      (λ l q. subst (Bad p byte bs k o) (err-same {A = ℕ} (length bs) j q) (missing p byte bs k o h 0 (0 ∷ []) (omega arith) (none-left bs k o 0 l)))
+    (λ l q. absurd (ok-not-err _ j q))
+    (λ l q. subst (Bad p byte bs k o) (err-same {A = ℕ} (length bs) j q) (missing p byte bs k o h 0 (0 ∷ []) (omega arith) (none-left bs k o 0 l)))
 field-faults (plain w) p bs k o h b pos j =
     by-there bs (k + (o + w)) _ (λ x. x ≡ Err j → Bad p (plain w) bs k o j)
-      (λ l q. absurd (ok-not-err _ j q))
-      (λ l q.
-        let c = fill w (drop (k + o) bs) (few-left bs k o w l) (bytes-drop (k + o) bs b) in
-        subst (Bad p (plain w) bs k o) (err-same {A = ℕ} (length bs) j q) (missing p (plain w) bs k o h (c .0) (c .1) (c .2) (c .3)))
+    (λ l q. absurd (ok-not-err _ j q))
+    (λ l q.
+    let c = fill w (drop (k + o) bs) (few-left bs k o w l) (bytes-drop (k + o) bs b) in
+    subst (Bad p (plain w) bs k o) (err-same {A = ℕ} (length bs) j q) (missing p (plain w) bs k o h (c .0) (c .1) (c .2) (c .3)))
 field-faults near p bs k o h b pos j =
     by-there bs (k + (o + 2)) _ (λ x. x ≡ Err j → Bad p near bs k o j)
-      (λ l q. absurd (ok-not-err _ j q))
-      (λ l q.
-        let c = fill 2 (drop (k + o) bs) (few-left bs k o 2 l) (bytes-drop (k + o) bs b) in
-        let s = stood-for 32768 (c .0) (c .2) in
-        subst (Bad p near bs k o) (err-same {A = Says near} (length bs) j q)
-          (missing p near bs k o h (signed 32768 (c .0)) (c .1) (near-from (signed 32768 (c .0)) (s .1) (s .2)) (c .3 ∙ ap (digits 2) (sym (s .0)))))
+    (λ l q. absurd (ok-not-err _ j q))
+    (λ l q.
+    let c = fill 2 (drop (k + o) bs) (few-left bs k o 2 l) (bytes-drop (k + o) bs b) in
+    let s = stood-for 32768 (c .0) (c .2) in
+    subst (Bad p near bs k o) (err-same {A = Says near} (length bs) j q)
+    (missing p near bs k o h (signed 32768 (c .0)) (c .1) (near-from (signed 32768 (c .0)) (s .1) (s .2)) (c .3 ∙ ap (digits 2) (sym (s .0)))))
 field-faults far p bs k o h b pos j =
     by-there bs (k + (o + 4)) _ (λ x. x ≡ Err j → Bad p far bs k o j)
-      (λ l q. absurd (ok-not-err _ j q))
-      (λ l q.
-        let c = fill 4 (drop (k + o) bs) (few-left bs k o 4 l) (bytes-drop (k + o) bs b) in
-        let s = stood-for 2147483648 (c .0) (c .2) in
-        subst (Bad p far bs k o) (err-same {A = Says far} (length bs) j q)
-          (missing p far bs k o h (signed 2147483648 (c .0)) (c .1) (far-from (signed 2147483648 (c .0)) (s .1) (s .2)) (c .3 ∙ ap (digits 4) (sym (s .0)))))
+    (λ l q. absurd (ok-not-err _ j q))
+    (λ l q.
+    let c = fill 4 (drop (k + o) bs) (few-left bs k o 4 l) (bytes-drop (k + o) bs b) in
+    let s = stood-for 2147483648 (c .0) (c .2) in
+    subst (Bad p far bs k o) (err-same {A = Says far} (length bs) j q)
+    (missing p far bs k o h (signed 2147483648 (c .0)) (c .1) (far-from (signed 2147483648 (c .0)) (s .1) (s .2)) (c .3 ∙ ap (digits 4) (sym (s .0)))))
 field-faults mark p bs k o h b pos j =
     let g = getD bs (k + o) 0 in
     by-there bs (k + (o + 1)) _ (λ x. x ≡ Err j → Bad p mark bs k o j)
-      (λ l. by-pick (eqb g 0) _ _ (λ x. x ≡ Err j → Bad p mark bs k o j)
-        (λ _ q. absurd (ok-not-err _ j q))
-        (λ t0. by-pick (eqb g 1) _ _ (λ x. x ≡ Err j → Bad p mark bs k o j)
-          (λ _ q. absurd (ok-not-err _ j q))
-          (λ t1 q. subst (Bad p mark bs k o) (err-same {A = Bool} (k + o) j q)
-            (wrong p mark bs k o l false tt (λ v s u fit e. no-mark g v (heads g (marked v) s u e) (eqb-false g 0 t0) (eqb-false g 1 t1))))))
-      (λ l q. subst (Bad p mark bs k o) (err-same {A = Bool} (length bs) j q) (missing p mark bs k o h false (0 ∷ []) tt (none-left bs k o 0 l)))
+    (λ l. by-pick (eqb g 0) _ _ (λ x. x ≡ Err j → Bad p mark bs k o j)
+    (λ _ q. absurd (ok-not-err _ j q))
+    (λ t0. by-pick (eqb g 1) _ _ (λ x. x ≡ Err j → Bad p mark bs k o j)
+    (λ _ q. absurd (ok-not-err _ j q))
+    (λ t1 q. subst (Bad p mark bs k o) (err-same {A = Bool} (k + o) j q)
+    (wrong p mark bs k o l false tt (λ v s u fit e. no-mark g v (heads g (marked v) s u e) (eqb-false g 0 t0) (eqb-false g 1 t1))))))
+    (λ l q. subst (Bad p mark bs k o) (err-same {A = Bool} (length bs) j q) (missing p mark bs k o h false (0 ∷ []) tt (none-left bs k o 0 l)))
   where
     no-mark : (g : ℕ) (v : Bool) → g ≡ marked v → (g ≡ 0 → ⊥) → (g ≡ 1 → ⊥) → ⊥
     no-mark g true e a c = c e
@@ -197,14 +201,14 @@ field-faults mark p bs k o h b pos j =
 field-faults (only c) p bs k o h b pos j =
     let g = getD bs (k + o) 0 in
     by-there bs (k + (o + 1)) _ (λ x. x ≡ Err j → Bad p (only c) bs k o j)
-      (λ l. by-pick (eqb g c) _ _ (λ x. x ≡ Err j → Bad p (only c) bs k o j)
-        (λ _ q. absurd (ok-not-err _ j q))
-        (λ t q. subst (Bad p (only c) bs k o) (err-same {A = Says (only c)} (k + o) j q)
-          (wrong p (only c) bs k o l tt tt (λ v s u fit e. eqb-false g c t (heads g c s u e)))))
-      (λ l q. subst (Bad p (only c) bs k o) (err-same {A = Says (only c)} (length bs) j q) (missing p (only c) bs k o h tt (c ∷ []) tt (none-left bs k o c l)))
+    (λ l. by-pick (eqb g c) _ _ (λ x. x ≡ Err j → Bad p (only c) bs k o j)
+    (λ _ q. absurd (ok-not-err _ j q))
+    (λ t q. subst (Bad p (only c) bs k o) (err-same {A = Says (only c)} (k + o) j q)
+    (wrong p (only c) bs k o l tt tt (λ v s u fit e. eqb-false g c t (heads g c s u e)))))
+    (λ l q. subst (Bad p (only c) bs k o) (err-same {A = Says (only c)} (length bs) j q) (missing p (only c) bs k o h tt (c ∷ []) tt (none-left bs k o c l)))
 field-faults (row w) p bs k o h b pos j =
     by-there bs (k + (o + 2)) _ (λ x. x ≡ Err j → Bad p (row w) bs k o j)
-      (λ l. by-there bs (k + (o + 2 + w * number 2 (drop (k + o) bs))) _ (λ x. x ≡ Err j → Bad p (row w) bs k o j)
-        (λ _ q. absurd (ok-not-err _ j q))
-        (λ m q. subst (Bad p (row w) bs k o) (err-same {A = List ℕ} (length bs) j q) (elements-missing p bs k o w h b l m)))
-      (λ l q. subst (Bad p (row w) bs k o) (err-same {A = List ℕ} (length bs) j q) (count-missing p bs k o w h b l))
+    (λ l. by-there bs (k + (o + 2 + w * number 2 (drop (k + o) bs))) _ (λ x. x ≡ Err j → Bad p (row w) bs k o j)
+    (λ _ q. absurd (ok-not-err _ j q))
+    (λ m q. subst (Bad p (row w) bs k o) (err-same {A = List ℕ} (length bs) j q) (elements-missing p bs k o w h b l m)))
+    (λ l q. subst (Bad p (row w) bs k o) (err-same {A = List ℕ} (length bs) j q) (count-missing p bs k o w h b l))

@@ -59,13 +59,18 @@ all-only [] m p bs k o h b r q =
     subst (All-got p [] m bs k o) (ok-same (m, k + o) r q) (record { values = tt; fits = tt; is = refl; from = omega arith; within = h; spelt = refl })
 all-only (f ∷ fs) m p bs k o h b r whole =
     by-then (field f p bs k o) (λ v to. decode fs (m v) p bs k to) (λ x. x ≡ Ok r → All-got p (f ∷ fs) m bs k o r)
-      (λ y e q.
-        let g = field-only f p bs k o h b y e in
-        let a = all-only fs (m (y .0)) p bs k (y .1) (g .within) b r q in
-        record {
-          values = (y .0, a .values); fits = (g .fits, a .fits); is = a .is; from = omega (arith, g .size, a .from); within = a .within;
-          spelt = g .spelt ∙ ap (λ t. spell f (y .0) ++ t) (a .spelt) ∙ sym (append-assoc (spell f (y .0)) (bytes fs (a .values)) (drop (r .1) bs)) })
-      (λ j _ q. absurd (err-not-ok r j q)) whole
+    (λ y e q.
+    let g = field-only f p bs k o h b y e in
+    let a = all-only fs (m (y .0)) p bs k (y .1) (g .within) b r q in
+    record {
+      values = (y .0, a .values);
+      fits = (g .fits, a .fits);
+      is = a .is;
+      from = omega (arith, g .size, a .from);
+      within = a .within;
+      spelt = g .spelt ∙ ap (λ t. spell f (y .0) ++ t) (a .spelt) ∙ sym (append-assoc (spell f (y .0)) (bytes fs (a .values)) (drop (r .1) bs));
+    })
+    (λ j _ q. absurd (err-not-ok r j q)) whole
 
 -- fields that say anything
 pub some-all : (fs : List Field) (p : ℕ) → 0 < p → (vs : Values fs) × Fits p fs vs
@@ -83,8 +88,8 @@ same-said : (f : Field) (p : ℕ) (v w : Says f) (s t : List ℕ) → Fit p f v 
 same-said f p v w s t a b e =
     let z : 0 + 0 ≤ length (spell f v ++ s) = omega arith in
     ap (λ r. r .0)
-      (ok-same (v, 0 + length (spell f v)) (w, 0 + length (spell f w))
-        (sym (field-reads f p v (spell f v ++ s) s 0 0 a z refl) ∙ field-reads f p w (spell f v ++ s) t 0 0 b z e))
+    (ok-same (v, 0 + length (spell f v)) (w, 0 + length (spell f w))
+    (sym (field-reads f p v (spell f v ++ s) s 0 0 a z refl) ∙ field-reads f p w (spell f v ++ s) t 0 0 b z e))
 
 -- the first bytes of a row that begins with xs, and goes on from the byte `to` on
 pub past : (bs xs : List ℕ) (i to n : ℕ) → to ≡ i + length xs → drop i bs ≡ xs ++ drop to bs → to ≤ n → take (n - i) (drop i bs) ≡ xs ++ take (n - to) (drop to bs)
@@ -96,8 +101,8 @@ pub all-faults : {A : Type 0} (fs : List Field) (m : From fs A) (p : ℕ) (bs : 
 all-faults [] m p bs k o h b pos j q = absurd (ok-not-err (m, k + o) j q)
 all-faults (f ∷ fs) m p bs k o h b pos j whole =
     by-then (field f p bs k o) (λ v to. decode fs (m v) p bs k to) (λ x. x ≡ Err j → All-bad p (f ∷ fs) bs k o j)
-      (λ y e q. later y (field-only f p bs k o h b y e) (all-faults fs (m (y .0)) p bs k (y .1) (field-only f p bs k o h b y e .within) b pos j q))
-      (λ i e q. subst (All-bad p (f ∷ fs) bs k o) (err-same i j q) (first i (field-faults f p bs k o h b pos i e))) whole
+    (λ y e q. later y (field-only f p bs k o h b y e) (all-faults fs (m (y .0)) p bs k (y .1) (field-only f p bs k o h b y e .within) b pos j q))
+    (λ i e q. subst (All-bad p (f ∷ fs) bs k o) (err-same i j q) (first i (field-faults f p bs k o h b pos i e))) whole
   where
     first : (i : ℕ) → Bad p f bs k o i → All-bad p (f ∷ fs) bs k o i
     first i d =
@@ -106,9 +111,12 @@ all-faults (f ∷ fs) m p bs k o h b pos j whole =
         let t = d .before .1 in
         let xs = take (i - (k + o)) (drop (k + o) bs) in
         record {
-          from = d .from; within = d .within;
+          from = d .from;
+          within = d .within;
           before = ((v, s .0), t ++ bytes fs (s .0), (d .before .2, s .1), sym (append-assoc xs t (bytes fs (s .0))) ∙ ap (λ l. l ++ bytes fs (s .0)) (d .before .3));
-          here = λ l vs t u g e. d .here l (vs .0) t (bytes fs (vs .1) ++ u) (g .0) (e ∙ append-assoc (spell f (vs .0)) (bytes fs (vs .1)) u) }
+          here = λ l vs t u g e. d .here l (vs .0) t (bytes fs (vs .1) ++ u) (g .0) (e ∙ append-assoc (spell f (vs .0)) (bytes fs (vs .1)) u);
+        }
+
     later : (y : Says f × ℕ) → Got p f bs k o y → All-bad p fs bs k (y .1) j → All-bad p (f ∷ fs) bs k o j
     later y g a =
         let v = y .0 in
@@ -121,16 +129,18 @@ all-faults (f ∷ fs) m p bs k o h b pos j whole =
         let vs = a .before .0 in
         let t = a .before .1 in
         record {
-          from = omega (arith, a .from); within = a .within;
+          from = omega (arith, a .from);
+          within = a .within;
           before = ((v, vs), t, (g .fits, a .before .2), ap (λ l. l ++ t) c ∙ append-assoc xs ys t ∙ ap (λ l. xs ++ l) (a .before .3));
           here = λ l ws t u fit e.
-            let z : suc (j - i) ≡ suc j - i = omega (arith, a .from) in
-            let z2 : suc j - to ≡ suc (j - to) = omega (arith, a .from) in
-            let d : take (suc (j - i)) (drop i bs) ≡ xs ++ take (suc (j - to)) (drop to bs) =
+              let z : suc (j - i) ≡ suc j - i = omega (arith, a .from) in
+              let z2 : suc j - to ≡ suc (j - to) = omega (arith, a .from) in
+              let d : take (suc (j - i)) (drop i bs) ≡ xs ++ take (suc (j - to)) (drop to bs) =
               ap (λ n. take n (drop i bs)) z ∙ past bs xs i to (suc j) lx (g .spelt) (omega (arith, a .from)) ∙ ap (λ n. xs ++ take n (drop to bs)) z2 in
-            let zs = take (suc (j - to)) (drop to bs) in
-            let e1 : xs ++ (zs ++ t) ≡ spell f (ws .0) ++ (bytes fs (ws .1) ++ u) =
+              let zs = take (suc (j - to)) (drop to bs) in
+              let e1 : xs ++ (zs ++ t) ≡ spell f (ws .0) ++ (bytes fs (ws .1) ++ u) =
               sym (append-assoc xs zs t) ∙ ap (λ l. l ++ t) (sym d) ∙ e ∙ append-assoc (spell f (ws .0)) (bytes fs (ws .1)) u in
-            let same : v ≡ ws .0 = same-said f p v (ws .0) (zs ++ t) (bytes fs (ws .1) ++ u) (g .fits) (fit .0) e1 in
-            let e2 : xs ++ (zs ++ t) ≡ xs ++ (bytes fs (ws .1) ++ u) = e1 ∙ ap (λ s. spell f s ++ (bytes fs (ws .1) ++ u)) (sym same) in
-            a .here l (ws .1) t u (fit .1) (append-cancel-left xs (zs ++ t) (bytes fs (ws .1) ++ u) e2) }
+              let same : v ≡ ws .0 = same-said f p v (ws .0) (zs ++ t) (bytes fs (ws .1) ++ u) (g .fits) (fit .0) e1 in
+              let e2 : xs ++ (zs ++ t) ≡ xs ++ (bytes fs (ws .1) ++ u) = e1 ∙ ap (λ s. spell f s ++ (bytes fs (ws .1) ++ u)) (sym same) in
+              a .here l (ws .1) t u (fit .1) (append-cancel-left xs (zs ++ t) (bytes fs (ws .1) ++ u) e2);
+        }

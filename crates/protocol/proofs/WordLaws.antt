@@ -60,14 +60,14 @@ back : (q : ℕ) → q < 7 → Backs q
 unfolding Carried-word
 back q h =
     below-7 Backs
-      (λ vs f. record { carried = tt; spelt = λ c. refl })
-      (λ vs f. record { carried = tt; spelt = λ c. refl })
-      (λ vs f. record { carried = f .0; spelt = λ c. refl })
-      (λ vs f. record { carried = (f .0, f .1 .0, f .1 .1 .0); spelt = λ c. refl })
-      (λ vs f. record { carried = f .0; spelt = λ c. refl })
-      (λ vs f. record { carried = (f .0, f .1 .0); spelt = λ c. refl })
-      (λ vs f. record { carried = (f .0, f .1 .0); spelt = λ c. refl })
-      q h
+    (λ vs f. record { carried = tt; spelt = λ c. refl })
+    (λ vs f. record { carried = tt; spelt = λ c. refl })
+    (λ vs f. record { carried = f .0; spelt = λ c. refl })
+    (λ vs f. record { carried = (f .0, f .1 .0, f .1 .1 .0); spelt = λ c. refl })
+    (λ vs f. record { carried = f .0; spelt = λ c. refl })
+    (λ vs f. record { carried = (f .0, f .1 .0); spelt = λ c. refl })
+    (λ vs f. record { carried = (f .0, f .1 .0); spelt = λ c. refl })
+    q h
 
 -- the answer where the program's byte is c and the kind's is x
 abbrev by-bytes : List ℕ → ℕ → ℕ → ℕ → Found (ℕ × Word)
@@ -113,12 +113,12 @@ word-only bs k b r =
     let c = getD bs k 0 in
     let g = getD bs (k + 1) 0 in
     by-there bs (k + 2) _ (λ x. x ≡ Ok r → Was bs k r)
-      (λ l. by-pick (ltb g 7) _ _ (λ x. x ≡ Ok r → Was bs k r)
-        (λ t. by-told c (decode-word-kind g bs k) (λ x. x ≡ Ok r → Was bs k r)
-          (λ y e q. subst (Was bs k) (ok-same ((c, y .0), y .1) r q) (was y l (ltb-true g 7 t) (all-only (word-format g .fields) (word-format g .says) 256 bs k 2 l b y e)))
-          (λ j _ q. absurd (err-not-ok r j q)))
-        (λ t q. absurd (err-not-ok r (k + 1) q)))
-      (λ l q. absurd (err-not-ok r (length bs) q))
+    (λ l. by-pick (ltb g 7) _ _ (λ x. x ≡ Ok r → Was bs k r)
+    (λ t. by-told c (decode-word-kind g bs k) (λ x. x ≡ Ok r → Was bs k r)
+    (λ y e q. subst (Was bs k) (ok-same ((c, y .0), y .1) r q) (was y l (ltb-true g 7 t) (all-only (word-format g .fields) (word-format g .says) 256 bs k 2 l b y e)))
+    (λ j _ q. absurd (err-not-ok r j q)))
+    (λ t q. absurd (err-not-ok r (k + 1) q)))
+    (λ l q. absurd (err-not-ok r (length bs) q))
   where
     was : (y : Word × ℕ) → k + 2 ≤ length bs → getD bs (k + 1) 0 < 7 → All-got 256 (word-format (getD bs (k + 1) 0) .fields) (word-format (getD bs (k + 1) 0) .says) bs k 2 y →
         Was bs k ((getD bs k 0, y .0), y .1)
@@ -128,7 +128,7 @@ word-only bs k b r =
         let k′ = back g low (a .values) (a .fits) in
         let P : Word → Type 0 = λ w. Carried-word w × (drop k bs ≡ encode-word c w ++ drop (y .1) bs) in
         let w = subst P (a .is)
-          (k′ .carried, two-front bs k l ∙ ap (λ t. c ∷ g ∷ t) (a .spelt) ∙ ap (λ t. t ++ drop (y .1) bs) (sym (k′ .spelt c))) in
+        (k′ .carried, two-front bs k l ∙ ap (λ t. c ∷ g ∷ t) (a .spelt) ∙ ap (λ t. t ++ drop (y .1) bs) (sym (k′ .spelt c))) in
         record { sent = (b k, w .0); after = omega (arith, a .from); within = a .within; spelt = w .1 }
 
 -- what is known of a fault, but that no word stands there
@@ -148,48 +148,61 @@ word-faults bs k b h j =
     let c = getD bs k 0 in
     let g = getD bs (k + 1) 0 in
     by-there bs (k + 2) _ (λ x. x ≡ Err j → Fault-at bs k j)
-      (λ l. by-pick (ltb g 7) _ _ (λ x. x ≡ Err j → Fault-at bs k j)
-        (λ t. by-told c (decode-word-kind g bs k) (λ x. x ≡ Err j → Fault-at bs k j)
-          (λ y _ q. absurd (ok-not-err ((c, y .0), y .1) j q))
-          (λ i e q. subst (Fault-at bs k) (err-same {A = ℕ × Word} i j q)
-            (inside i l (ltb-true g 7 t) (all-faults (word-format g .fields) (word-format g .says) 256 bs k 2 l b (omega arith) i e))))
-        (λ t q. subst (Fault-at bs k) (err-same {A = ℕ × Word} (k + 1) j q) (at-kind l (ltb-false g 7 t))))
-      (λ l q. subst (Fault-at bs k) (err-same {A = ℕ × Word} (length bs) j q) (at-end l))
+    (λ l. by-pick (ltb g 7) _ _ (λ x. x ≡ Err j → Fault-at bs k j)
+    (λ t. by-told c (decode-word-kind g bs k) (λ x. x ≡ Err j → Fault-at bs k j)
+    (λ y _ q. absurd (ok-not-err ((c, y .0), y .1) j q))
+    (λ i e q. subst (Fault-at bs k) (err-same {A = ℕ × Word} i j q)
+    (inside i l (ltb-true g 7 t) (all-faults (word-format g .fields) (word-format g .says) 256 bs k 2 l b (omega arith) i e))))
+    (λ t q. subst (Fault-at bs k) (err-same {A = ℕ × Word} (k + 1) j q) (at-kind l (ltb-false g 7 t))))
+    (λ l q. subst (Fault-at bs k) (err-same {A = ℕ × Word} (length bs) j q) (at-end l))
   where
     -- the bytes from k on up to n, with the two bytes in front
     front : (n : ℕ) → k + 2 ≤ length bs → k + 2 ≤ n → take (n - k) (drop k bs) ≡ getD bs k 0 ∷ getD bs (k + 1) 0 ∷ take (n - (k + 2)) (drop (k + 2) bs)
     front n l m = past bs (getD bs k 0 ∷ getD bs (k + 1) 0 ∷ []) k (k + 2) n refl (two-front bs k l) m
+
     at-end : length bs < k + 2 → Fault-at bs k (length bs)
     at-end l =
         record {
-          from = h; within = omega arith;
+          from = h;
+          within = omega arith;
           before =
-            elim (cases-lt k (length bs)) [
-              inl a ↦
-                ((getD bs k 0, no), refusal (getD bs k 0) (b k),
-                  (0 ∷ 255 ∷ [], ap (λ t. t ++ 0 ∷ 255 ∷ []) (take-rest bs k ∙ one-more bs k (k + 1) a refl ∙ ap (λ t. getD bs k 0 ∷ t) (drop-all (k + 1) bs (omega arith)))))
-            | inr a ↦
-                ((0, no), refusal 0 (omega arith),
-                  (0 ∷ 0 ∷ 255 ∷ [], ap (λ t. t ++ 0 ∷ 0 ∷ 255 ∷ []) (take-rest bs k ∙ drop-all k bs a)))
-            ];
-          here = λ m _ _ _. omega arith }
+              elim (cases-lt k (length bs)) [
+                | inl a ↦ (
+                  (getD bs k 0, no),
+                  refusal (getD bs k 0) (b k),
+                  (0 ∷ 255 ∷ [], ap (λ t. t ++ 0 ∷ 255 ∷ []) (take-rest bs k ∙ one-more bs k (k + 1) a refl ∙ ap (λ t. getD bs k 0 ∷ t) (drop-all (k + 1) bs (omega arith)))),
+                )
+                | inr a ↦ (
+                  (0, no),
+                  refusal 0 (omega arith),
+                  (0 ∷ 0 ∷ 255 ∷ [], ap (λ t. t ++ 0 ∷ 0 ∷ 255 ∷ []) (take-rest bs k ∙ drop-all k bs a)),
+                )
+              ];
+          here = λ m _ _ _. omega arith;
+        }
+
     at-kind : k + 2 ≤ length bs → 7 ≤ getD bs (k + 1) 0 → Fault-at bs k (k + 1)
     at-kind l high =
         let c = getD bs k 0 in
         let g = getD bs (k + 1) 0 in
         let z : k + 1 - k ≡ 1 = omega arith in
         record {
-          from = omega arith; within = omega arith;
-          before =
-            ((c, no), refusal c (b k),
-              (0 ∷ 255 ∷ [], ap (λ n. take n (drop k bs) ++ 0 ∷ 255 ∷ []) z ∙ ap (λ t. take 1 t ++ 0 ∷ 255 ∷ []) (two-front bs k l)));
+          from = omega arith;
+          within = omega arith;
+          before = (
+            (c, no),
+            refusal c (b k),
+            (0 ∷ 255 ∷ [], ap (λ n. take n (drop k bs) ++ 0 ∷ 255 ∷ []) z ∙ ap (λ t. take 1 t ++ 0 ∷ 255 ∷ []) (two-front bs k l)),
+          );
           here = λ _ m s w.
-            let v = view (m .0) (m .1) (s .1) in
-            let z1 : suc (k + 1 - k) ≡ 2 = omega arith in
-            let f : take (suc (k + 1 - k)) (drop k bs) ≡ c ∷ g ∷ [] = ap (λ n. take n (drop k bs)) z1 ∙ ap (take 2) (two-front bs k l) in
-            let e1 : c ∷ g ∷ w .0 ≡ m .0 ∷ v .q ∷ bytes (word-format (v .q) .fields) (v .values) = sym (ap (λ t. t ++ w .0) f) ∙ w .1 ∙ v .spelt in
-            let same : g ≡ v .q = heads g (v .q) (w .0) (bytes (word-format (v .q) .fields) (v .values)) (ap (drop 1) e1) in
-            omega (arith, v .low) }
+              let v = view (m .0) (m .1) (s .1) in
+              let z1 : suc (k + 1 - k) ≡ 2 = omega arith in
+              let f : take (suc (k + 1 - k)) (drop k bs) ≡ c ∷ g ∷ [] = ap (λ n. take n (drop k bs)) z1 ∙ ap (take 2) (two-front bs k l) in
+              let e1 : c ∷ g ∷ w .0 ≡ m .0 ∷ v .q ∷ bytes (word-format (v .q) .fields) (v .values) = sym (ap (λ t. t ++ w .0) f) ∙ w .1 ∙ v .spelt in
+              let same : g ≡ v .q = heads g (v .q) (w .0) (bytes (word-format (v .q) .fields) (v .values)) (ap (drop 1) e1) in
+              omega (arith, v .low);
+        }
+
     inside : (i : ℕ) → k + 2 ≤ length bs → getD bs (k + 1) 0 < 7 → All-bad 256 (word-format (getD bs (k + 1) 0) .fields) bs k 2 i → Fault-at bs k i
     inside i l low d =
         let c = getD bs k 0 in
@@ -199,21 +212,26 @@ word-faults bs k b h j =
         let t = d .before .1 in
         let k′ = back g low vs (d .before .2) in
         record {
-          from = omega (arith, d .from); within = d .within;
-          before = ((c, apply fs (word-format g .says) vs), (b k, k′ .carried),
-            (t, ap (λ l. l ++ t) (front i l (d .from)) ∙ ap (λ l. c ∷ g ∷ l) (d .before .3) ∙ sym (k′ .spelt c)));
+          from = omega (arith, d .from);
+          within = d .within;
+          before = (
+            (c, apply fs (word-format g .says) vs),
+            (b k, k′ .carried),
+            (t, ap (λ l. l ++ t) (front i l (d .from)) ∙ ap (λ l. c ∷ g ∷ l) (d .before .3) ∙ sym (k′ .spelt c)),
+          );
           here = λ n m s w.
-            let v = view (m .0) (m .1) (s .1) in
-            let z1 : suc (i - k) ≡ suc i - k = omega (arith, d .from) in
-            let z2 : suc i - (k + 2) ≡ suc (i - (k + 2)) = omega (arith, d .from) in
-            let rest = take (suc (i - (k + 2))) (drop (k + 2) bs) in
-            let f : take (suc (i - k)) (drop k bs) ≡ c ∷ g ∷ rest =
+              let v = view (m .0) (m .1) (s .1) in
+              let z1 : suc (i - k) ≡ suc i - k = omega (arith, d .from) in
+              let z2 : suc i - (k + 2) ≡ suc (i - (k + 2)) = omega (arith, d .from) in
+              let rest = take (suc (i - (k + 2))) (drop (k + 2) bs) in
+              let f : take (suc (i - k)) (drop k bs) ≡ c ∷ g ∷ rest =
               ap (λ n. take n (drop k bs)) z1 ∙ front (suc i) l (omega (arith, d .from)) ∙ ap (λ n. c ∷ g ∷ take n (drop (k + 2) bs)) z2 in
-            let e1 : c ∷ g ∷ (rest ++ w .0) ≡ m .0 ∷ v .q ∷ bytes (word-format (v .q) .fields) (v .values) = sym (ap (λ t. t ++ w .0) f) ∙ w .1 ∙ v .spelt in
-            let same : g ≡ v .q = heads g (v .q) (rest ++ w .0) (bytes (word-format (v .q) .fields) (v .values)) (ap (drop 1) e1) in
-            let P : ℕ → Type 0 = λ q. All-bad 256 (word-format q .fields) bs k 2 i in
-            let tails : rest ++ w .0 ≡ bytes (word-format (v .q) .fields) (v .values) = ap (drop 2) e1 in
-            subst P same d .here n (v .values) (w .0) [] (v .fits) (tails ∙ sym (append-nil (bytes (word-format (v .q) .fields) (v .values)))) }
+              let e1 : c ∷ g ∷ (rest ++ w .0) ≡ m .0 ∷ v .q ∷ bytes (word-format (v .q) .fields) (v .values) = sym (ap (λ t. t ++ w .0) f) ∙ w .1 ∙ v .spelt in
+              let same : g ≡ v .q = heads g (v .q) (rest ++ w .0) (bytes (word-format (v .q) .fields) (v .values)) (ap (drop 1) e1) in
+              let P : ℕ → Type 0 = λ q. All-bad 256 (word-format q .fields) bs k 2 i in
+              let tails : rest ++ w .0 ≡ bytes (word-format (v .q) .fields) (v .values) = ap (drop 2) e1 in
+              subst P same d .here n (v .values) (w .0) [] (v .fits) (tails ∙ sym (append-nil (bytes (word-format (v .q) .fields) (v .values))));
+        }
 
 -- a row that is short enough
 short : (bs : List ℕ) (k : ℕ) → length bs < 4294967296 → read-told bs k ≡ decode-word bs k
@@ -228,7 +246,7 @@ unfolding Reads-word-back
 reads-word-back m before behind s l =
     short (before ++ (spell-told m ++ behind)) (length before) l
     ∙ word-reads m (before ++ (spell-told m ++ behind)) behind (length before) s (omega (arith, length-append before (spell-told m ++ behind)))
-        (drop-at before (spell-told m ++ behind) (length before) refl)
+    (drop-at before (spell-told m ++ behind) (length before) refl)
 
 pub reads-words-only : Reads-words-only
 unfolding Reads-words-only
@@ -242,8 +260,12 @@ word-faults-first bs k j b l h q =
     let d = sym (short bs k l) ∙ q in
     let f = word-faults bs k b h j d in
     record {
-      from = f .from; within = f .within; before = f .before; here = f .here;
-      none = λ m s w. ok-not-err (m, k + length (spell-told m)) j (sym (word-reads m bs (w .0) k s h (w .1)) ∙ d) }
+      from = f .from;
+      within = f .within;
+      before = f .before;
+      here = f .here;
+      none = λ m s w. ok-not-err (m, k + length (spell-told m)) j (sym (word-reads m bs (w .0) k s h (w .1)) ∙ d);
+    }
 
 pub word-faults-where-none : Word-faults-where-none
 unfolding Word-faults-where-none

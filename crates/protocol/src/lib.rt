@@ -6,6 +6,7 @@ ghost use lib.ListN.{length};
 ghost use Rattle.protocol.specs.Added.{Wrote};
 ghost use Rattle.protocol.specs.Formats.{read-event, read-told, encode, encode-word};
 ghost use Rattle.protocol.specs.Meaning.{Ends, said, told-said, built-of, meaning, word-meaning, had, word-had};
+
 mod events;
 mod laws;
 mod numbers;
@@ -41,7 +42,9 @@ pub fn read(call: &[u8], at: usize, programs: u8, kinds: Kinds) -> Result<(Event
     ensures ends { λ r. ⌜ Ends (now (call .entry)) at r ⌝ }
 {
     if call.len() >= CALL_END {
-        return Err(Fault { place: CALL_END - 1 });
+        return Err(Fault {
+            place: CALL_END - 1,
+        });
     }
     if at >= call.len() {
         return Err(Fault { place: call.len() });
@@ -59,7 +62,9 @@ pub fn read_word(words: &[u8], at: usize) -> Result<((u8, Word), usize), Fault>
     ensures ends { λ r. ⌜ Ends (now (words .entry)) at r ⌝ }
 {
     if words.len() >= CALL_END {
-        return Err(Fault { place: CALL_END - 1 });
+        return Err(Fault {
+            place: CALL_END - 1,
+        });
     }
     if at >= words.len() || words.len() - at < 2 {
         return Err(Fault { place: words.len() });
@@ -78,14 +83,52 @@ pub fn write_event(e: Event, source: &[u8], out: &mut [u8], at: usize) -> Option
     ensures { λ r. ⌜ Wrote (had (now (source .entry)) e) at (encode (meaning (now (source .entry)) e)) (now (out .entry)) (now (out .exit)) r ⌝ }
 {
     match e {
-        Event::Make { program, x, y, wide, high } => write::write_make(out, at, program, x, y, wide, high),
+        Event::Make {
+            program,
+            x,
+            y,
+            wide,
+            high,
+        } => write::write_make(out, at, program, x, y, wide, high),
         Event::Close { program, window } => write::write_close(out, at, program, window),
-        Event::Move { program, window, x, y } => write::write_move(out, at, program, window, x, y),
+        Event::Move {
+            program,
+            window,
+            x,
+            y,
+        } => write::write_move(out, at, program, window, x, y),
         Event::Raise { program, window } => write::write_raise(out, at, program, window),
-        Event::Show { program, window, on } => write::write_show(out, at, program, window, on),
-        Event::Fill { program, window, x, y, wide, high, colour } => write::write_fill(out, at, program, window, x, y, wide, high, colour),
-        Event::Put { program, window, x, y, colours } => write::write_put(out, at, source, program, window, x, y, colours),
-        Event::Copy { program, window, x, y, wide, high, to_x, to_y } => write::write_copy(out, at, program, window, x, y, wide, high, to_x, to_y),
+        Event::Show {
+            program,
+            window,
+            on,
+        } => write::write_show(out, at, program, window, on),
+        Event::Fill {
+            program,
+            window,
+            x,
+            y,
+            wide,
+            high,
+            colour,
+        } => write::write_fill(out, at, program, window, x, y, wide, high, colour),
+        Event::Put {
+            program,
+            window,
+            x,
+            y,
+            colours,
+        } => write::write_put(out, at, source, program, window, x, y, colours),
+        Event::Copy {
+            program,
+            window,
+            x,
+            y,
+            wide,
+            high,
+            to_x,
+            to_y,
+        } => write::write_copy(out, at, program, window, x, y, wide, high, to_x, to_y),
         Event::Offer { program, bytes } => write::write_offer(out, at, source, program, bytes),
         Event::Point { x, y } => write::write_point(out, at, x, y),
         Event::Press { down } => write::write_press(out, at, down),
@@ -105,6 +148,13 @@ pub fn write_word(program: u8, w: Word, source: &[u8], out: &mut [u8], at: usize
         Word::At { window, x, y } => tell::write_at(out, at, program, window, x, y),
         Word::Pressed { window, down } => tell::write_pressed(out, at, program, window, down),
         Word::Typed { window, key } => tell::write_typed(out, at, program, window, key),
-        Word::Pasted { window, bytes } => tell::write_pasted(out, at, program, source, window, bytes),
+        Word::Pasted { window, bytes } => tell::write_pasted(
+            out,
+            at,
+            program,
+            source,
+            window,
+            bytes,
+        ),
     }
 }
