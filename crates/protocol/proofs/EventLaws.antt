@@ -11,9 +11,9 @@ use Rattle.std.proofs.shelf.Tests.{ltb-true, lt-ltb, lt-leb, leb-false, and-par
 use Rattle.std.proofs.shelf.Lists.{append-nil, length-append, length-drop, take-at, drop-at, drop-all, take-rest}
 use Rattle.model.specs.Basics.{pick}
 use Rattle.model.specs.Desk.{Event, make, close, move, raise, show, fill, put, copy, offer, point, press, key, paste, kind}
-use Rattle.protocol.specs.Fields.{Bytes, Field, Found, there}
+use Rattle.protocol.specs.Fields.{all-digits, unsigned, Bytes, Field, Found, there}
 use Rattle.protocol.specs.Formats.{encode, event-format, decode-kind, decode-event, read-event}
-use Rattle.protocol.specs.Laws.{Carried, Sent, Stands-at, Begins, First-fault, Reads-back, Reads-only, Faults-first, Faults-where-none}
+use Rattle.protocol.specs.Laws.{Carried, Sent, Stands-at, Begins, First-fault, Reads-back, Reads-only, Faults-first, Faults-where-none, Worked}
 use Rattle.protocol.proofs.Tests.{ok-same, err-same, ok-not-err, err-not-ok, by-pick, there-ok, by-there, ends-within, goes-on, stands, one-more, answer, size-read}
 use Rattle.protocol.proofs.FieldFaults.{heads}
 use Rattle.protocol.proofs.Sequences.{Values, apply, bytes, Fits, all-read, All-got, all-only, some-all, All-bad, past, all-faults}
@@ -280,3 +280,7 @@ pub faults-where-none : Faults-where-none
 unfolding Faults-where-none
 faults-where-none built p bs k b none =
     answer (read-event built p bs k) (λ r q. let w = read-was built p bs k b r q in none (r .0) (w .sent) (drop (r .1) bs, w .spelt))
+
+pub worked : Worked
+unfolding Worked all-digits unsigned
+worked = (refl, refl, refl)

@@ -1,5 +1,5 @@
 // What ties reading and writing. These functions do nothing: their contracts are the theorems.
-ghost use Rattle.protocol.specs.Laws.{Reads-back, Reads-only, Faults-first, Faults-where-none};
+ghost use Rattle.protocol.specs.Laws.{Reads-back, Reads-only, Faults-first, Faults-where-none, Worked};
 ghost use Rattle.protocol.specs.Laws.{Reads-word-back, Reads-words-only, Word-faults-first, Word-faults-where-none};
 
 // Events are read as they are written, and nothing else is read; a fault is at the first byte that no event has.
@@ -8,6 +8,7 @@ pub fn events_stand() -> bool
     ensures only { λ _. ⌜ Reads-only ⌝ }
     ensures first { λ _. ⌜ Faults-first ⌝ }
     ensures none { λ _. ⌜ Faults-where-none ⌝ }
+    ensures worked { λ _. ⌜ Worked ⌝ }
 {
     true
 }

@@ -1,11 +1,12 @@
 // Events and words in bytes: readers, writers, and what ties them.
 ghost use mathlib.Core.Path.{_≡_};
-ghost use mathlib.Core.Bool.{_&&_};
+ghost use mathlib.Core.Bool.{true, false, _&&_};
 ghost use lib.Dec.{ltb};
-ghost use lib.ListN.{length};
+ghost use lib.ListN.{length, getD};
 ghost use Rattle.protocol.specs.Added.{Wrote};
 ghost use Rattle.protocol.specs.Formats.{read-event, read-told, encode, encode-word};
-ghost use Rattle.protocol.specs.Meaning.{Ends, said, told-said, built-of, meaning, word-meaning, had, word-had};
+ghost use Rattle.protocol.specs.Meaning.{Ends, said, told-said, built-of, meaning, word-meaning, had, word-had, part, lies};
+ghost use Rattle.std.specs.declared.option.Option.the-variants.{Some, None};
 
 mod events;
 mod laws;
@@ -75,6 +76,19 @@ pub fn read_word(words: &[u8], at: usize) -> Result<((u8, Word), usize), Fault>
     }
     let (word, end) = told::read_word_kind(kind, words, at)?;
     Ok(((words[at], word), end))
+}
+
+// The colour `i` of a row of colours that lies in the source, or none if it has not so many.
+pub fn colour_at(source: &[u8], row: Part, i: u16) -> Option<u32>
+    ensures { λ r. ⌜ elim r [
+      | None ↦ (lies 4 (now (source .entry)) row && ltb i (row .count)) ≡ false
+      | Some q ↦ ((lies 4 (now (source .entry)) row && ltb i (row .count)) ≡ true) × (q ≡ getD (part 4 (now (source .entry)) row) i 0)
+    ] ⌝ }
+{
+    if i >= row.count || !push::room(source.len(), row.from, 4 * row.count as usize) {
+        return None;
+    }
+    Some(numbers::read_four(source, row.from + 4 * i as usize))
 }
 
 // Writes an event, whose parts point into the source, from the byte `at` on: how many bytes it has.
