@@ -1,11 +1,7 @@
 -- Spans of columns or rows: those that lie in two, and those of a screen that lie in a signed one.
 use mathlib.Core.Path.{_≡_, refl, sym, _∙_, ap, ap₂}
 use mathlib.Core.Bool.{Bool, true, false, _&&_}
-<<<<<<< HEAD
-use mathlib.Core.Logic.{_⊎_, inl, inr}
-=======
 use mathlib.Core.Logic.{inl, inr}
->>>>>>> region
 use Prim.Native.Nat.{ℕ, _+_, _-_, _≤_, _<_, min, max}
 use native.Mathlib.Omega.{arith}
 use lib.Dec.{ltb, leb}
@@ -14,15 +10,9 @@ use lib.Signed.{ltZ, leZ}
 use Rattle.std.proofs.shelf.Tests.{true≢false}
 use Rattle.std.proofs.shelf.Ways.{tells}
 use Rattle.model.specs.Basics.{in-box}
-<<<<<<< HEAD
-use Rattle.model.specs.Desk.{Window, in-window}
-use Rattle.geometry.specs.declared.Rect.{Rect}
-use Rattle.geometry.specs.Boxes.{in-rect, in-placed, on-screen, blank, Proper, Neat, Touching, Empty}
-=======
 use Rattle.model.specs.Desk.{in-window}
 use Rattle.geometry.specs.declared.Rect.{Rect}
 use Rattle.geometry.specs.Boxes.{in-rect, in-placed, on-screen, Neat}
->>>>>>> region
 use Rattle.geometry.specs.Meaning.{Is-box, Is-window, Same-rect}
 
 pub span-meet : (a b c d i : ℕ) → (leb (max a c) i && ltb i (min b d)) ≡ ((leb a i && ltb i b) && (leb c i && ltb i d))

@@ -1,10 +1,6 @@
 -- What the words of this crate come to in the words of the desk.
 use mathlib.Core.Path.{_≡_}
-<<<<<<< HEAD
-use mathlib.Core.Bool.{Bool, _&&_}
-=======
 use mathlib.Core.Bool.{_&&_}
->>>>>>> region
 use Prim.Native.Nat.{ℕ, _-_}
 use lib.IntN.{pos}
 use Rattle.model.specs.Basics.{in-box}

@@ -1,21 +1,13 @@
 // Boxes of dots, and windows at signed places clipped to the screen.
 // A dot is its column i and its row j, both counted from 0 at the upper left.
 ghost use mathlib.Core.Path.{_≡_};
-<<<<<<< HEAD
-ghost use mathlib.Core.Bool.{Bool, true, false, _&&_, cond};
-=======
 ghost use mathlib.Core.Bool.{_&&_};
->>>>>>> region
 ghost use Prim.Native.Nat.{ℕ, _+_, _-_, _<_, _≤_};
 ghost use lib.Dec.{ltb, leb};
 ghost use lib.IntN.{pos, _+ℤ_};
 ghost use lib.Signed.{ltZ, leZ};
 ghost use Rattle.model.specs.Desk.{clamp};
-<<<<<<< HEAD
-ghost use Rattle.geometry.specs.Boxes.{in-rect, on-screen, in-placed, blank, Neat, Touching, Empty};
-=======
 ghost use Rattle.geometry.specs.Boxes.{in-rect, on-screen, in-placed, Neat, Touching, Empty};
->>>>>>> region
 ghost use Rattle.geometry.specs.Meaning.{Is-box, Is-window, Same-rect};
 
 // A box of dots: from the column `left` up to `right`, and from the row `top` up to `below`, both left out.

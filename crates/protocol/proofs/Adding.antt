@@ -21,7 +21,8 @@ added-then at mid to bs cs x y z p q =
     record {
       ends = simp length-append (omega (arith, p .ends, q .ends));
       front = q .front ∙ ap (λ t. t ++ cs) (p .front) ∙ append-assoc (take at x) bs cs;
-      rest = q .rest ∙ further }
+      rest = q .rest ∙ further;
+    }
   where
     further : drop to y ≡ drop to x
     further = rw (q .ends) (sym (drop-drop (length cs) mid y) ∙ ap (drop (length cs)) (p .rest) ∙ drop-drop (length cs) mid x)
@@ -38,10 +39,11 @@ pub added-part : (at size n : ℕ) (old ys zs : List ℕ) → n ≡ size → len
 added-part at size n old ys zs e l h z =
     let P : List ℕ → Type 0 = λ t. Added at (at + size) ys old (putMid at n old t) in
     subst P (sym z)
-      (record {
-        ends = omega arith;
-        front = take-putMid at n old ys (at + size) (omega arith) (omega arith);
-        rest = drop-putMid at n old ys (at + size) (omega arith) (omega arith) (omega arith) })
+    (record {
+      ends = omega arith;
+      front = take-putMid at n old ys (at + size) (omega arith) (omega arith);
+      rest = drop-putMid at n old ys (at + size) (omega arith) (omega arith) (omega arith);
+    })
 
 -- all is written
 pub wrote-row : (had : Bool) (at to n : ℕ) (bs x y : List ℕ) → had ≡ true → leb (at + n) (length x) ≡ true → n ≡ length bs → Added at to bs x y →

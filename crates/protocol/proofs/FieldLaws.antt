@@ -34,7 +34,7 @@ near-range : (z : ℤ) → Near z → (negℤ (pos 32768) ≤ℤ z) × (z <ℤ p
 unfolding Near
 near-range z n = (n .0, omega (arith, ints, n .1))
 
-near-from : (z : ℤ) → negℤ (pos 32768) ≤ℤ z → z <ℤ pos 32768 → Near z
+pub near-from : (z : ℤ) → negℤ (pos 32768) ≤ℤ z → z <ℤ pos 32768 → Near z
 unfolding Near
 near-from z a b = (a, omega (arith, ints))
 
@@ -42,7 +42,7 @@ far-range : (z : ℤ) → Far z → (negℤ (pos 2147483648) ≤ℤ z) × (z <�
 unfolding Far
 far-range z n = (n .0, omega (arith, ints, n .1))
 
-far-from : (z : ℤ) → negℤ (pos 2147483648) ≤ℤ z → z <ℤ pos 2147483648 → Far z
+pub far-from : (z : ℤ) → negℤ (pos 2147483648) ≤ℤ z → z <ℤ pos 2147483648 → Far z
 unfolding Far
 far-from z a b = (a, omega (arith, ints))
 
@@ -113,72 +113,80 @@ pub field-only : (f : Field) (p : ℕ) (bs : List ℕ) (k o : ℕ) → k + o ≤
 unfolding Row
 field-only program p bs k o h b r =
     by-there bs (k + (o + 1)) _ (λ x. x ≡ Ok r → Got p program bs k o r)
-      (λ l. by-pick (ltb (getD bs (k + o) 0) p) _ _ (λ x. x ≡ Ok r → Got p program bs k o r)
-        (λ t q. subst (Got p program bs k o) (ok-same (getD bs (k + o) 0, o + 1) r q)
-          (record { fits = ltb-true (getD bs (k + o) 0) p t; size = refl; within = l; spelt = byte-spelt bs k o l }))
-        (λ t q. absurd (err-not-ok r (k + o) q)))
-      (λ l q. absurd (err-not-ok r (length bs) q))
+    (λ l. by-pick (ltb (getD bs (k + o) 0) p) _ _ (λ x. x ≡ Ok r → Got p program bs k o r)
+    (λ t q. subst (Got p program bs k o) (ok-same (getD bs (k + o) 0, o + 1) r q)
+    (record { fits = ltb-true (getD bs (k + o) 0) p t; size = refl; within = l; spelt = byte-spelt bs k o l }))
+    (λ t q. absurd (err-not-ok r (k + o) q)))
+    (λ l q. absurd (err-not-ok r (length bs) q))
 field-only byte p bs k o h b r =
     by-there bs (k + (o + 1)) _ (λ x. x ≡ Ok r → Got p byte bs k o r)
-      (λ l q. subst (Got p byte bs k o) (ok-same (getD bs (k + o) 0, o + 1) r q)
-        (record { fits = b (k + o); size = refl; within = l; spelt = byte-spelt bs k o l }))
-      (λ l q. absurd (err-not-ok r (length bs) q))
+    (λ l q. subst (Got p byte bs k o) (ok-same (getD bs (k + o) 0, o + 1) r q)
+    (record { fits = b (k + o); size = refl; within = l; spelt = byte-spelt bs k o l }))
+    (λ l q. absurd (err-not-ok r (length bs) q))
 field-only (plain w) p bs k o h b r =
     by-there bs (k + (o + w)) _ (λ x. x ≡ Ok r → Got p (plain w) bs k o r)
-      (λ l q. subst (Got p (plain w) bs k o) (ok-same (number w (drop (k + o) bs), o + w) r q)
-        (record {
-          fits = number-small w (drop (k + o) bs) (bytes-drop (k + o) bs b);
-          size = ap (λ m. o + m) (sym (length-digits w (number w (drop (k + o) bs))));
-          within = l; spelt = bytes-spelt bs k o w l b }))
-      (λ l q. absurd (err-not-ok r (length bs) q))
+    (λ l q. subst (Got p (plain w) bs k o) (ok-same (number w (drop (k + o) bs), o + w) r q)
+    (record {
+      fits = number-small w (drop (k + o) bs) (bytes-drop (k + o) bs b);
+      size = ap (λ m. o + m) (sym (length-digits w (number w (drop (k + o) bs))));
+      within = l;
+      spelt = bytes-spelt bs k o w l b;
+    }))
+    (λ l q. absurd (err-not-ok r (length bs) q))
 field-only near p bs k o h b r =
     let n = number 2 (drop (k + o) bs) in
     let s = stood-for 32768 n (number-small 2 (drop (k + o) bs) (bytes-drop (k + o) bs b)) in
     by-there bs (k + (o + 2)) _ (λ x. x ≡ Ok r → Got p near bs k o r)
-      (λ l q. subst (Got p near bs k o) (ok-same (signed 32768 n, o + 2) r q)
-        (record {
-          fits = near-from (signed 32768 n) (s .1) (s .2); size = refl; within = l;
-          spelt = bytes-spelt bs k o 2 l b ∙ ap (λ u. digits 2 u ++ drop (k + (o + 2)) bs) (sym (s .0)) }))
-      (λ l q. absurd (err-not-ok r (length bs) q))
+    (λ l q. subst (Got p near bs k o) (ok-same (signed 32768 n, o + 2) r q)
+    (record {
+      fits = near-from (signed 32768 n) (s .1) (s .2);
+      size = refl;
+      within = l;
+      spelt = bytes-spelt bs k o 2 l b ∙ ap (λ u. digits 2 u ++ drop (k + (o + 2)) bs) (sym (s .0));
+    }))
+    (λ l q. absurd (err-not-ok r (length bs) q))
 field-only far p bs k o h b r =
     let n = number 4 (drop (k + o) bs) in
     let s = stood-for 2147483648 n (number-small 4 (drop (k + o) bs) (bytes-drop (k + o) bs b)) in
     by-there bs (k + (o + 4)) _ (λ x. x ≡ Ok r → Got p far bs k o r)
-      (λ l q. subst (Got p far bs k o) (ok-same (signed 2147483648 n, o + 4) r q)
-        (record {
-          fits = far-from (signed 2147483648 n) (s .1) (s .2); size = refl; within = l;
-          spelt = bytes-spelt bs k o 4 l b ∙ ap (λ u. digits 4 u ++ drop (k + (o + 4)) bs) (sym (s .0)) }))
-      (λ l q. absurd (err-not-ok r (length bs) q))
+    (λ l q. subst (Got p far bs k o) (ok-same (signed 2147483648 n, o + 4) r q)
+    (record {
+      fits = far-from (signed 2147483648 n) (s .1) (s .2);
+      size = refl;
+      within = l;
+      spelt = bytes-spelt bs k o 4 l b ∙ ap (λ u. digits 4 u ++ drop (k + (o + 4)) bs) (sym (s .0));
+    }))
+    (λ l q. absurd (err-not-ok r (length bs) q))
 field-only mark p bs k o h b r =
     let g = getD bs (k + o) 0 in
     by-there bs (k + (o + 1)) _ (λ x. x ≡ Ok r → Got p mark bs k o r)
-      (λ l. by-pick (eqb g 0) _ _ (λ x. x ≡ Ok r → Got p mark bs k o r)
-        (λ t q. subst (Got p mark bs k o) (ok-same (false, o + 1) r q)
-          (record { fits = tt; size = refl; within = l; spelt = byte-spelt bs k o l ∙ ap (λ v. v ∷ drop (k + (o + 1)) bs) (eqb-true g 0 t) }))
-        (λ _. by-pick (eqb g 1) _ _ (λ x. x ≡ Ok r → Got p mark bs k o r)
-          (λ t q. subst (Got p mark bs k o) (ok-same (true, o + 1) r q)
-            (record { fits = tt; size = refl; within = l; spelt = byte-spelt bs k o l ∙ ap (λ v. v ∷ drop (k + (o + 1)) bs) (eqb-true g 1 t) }))
-          (λ t q. absurd (err-not-ok r (k + o) q))))
-      (λ l q. absurd (err-not-ok r (length bs) q))
+    (λ l. by-pick (eqb g 0) _ _ (λ x. x ≡ Ok r → Got p mark bs k o r)
+    (λ t q. subst (Got p mark bs k o) (ok-same (false, o + 1) r q)
+    (record { fits = tt; size = refl; within = l; spelt = byte-spelt bs k o l ∙ ap (λ v. v ∷ drop (k + (o + 1)) bs) (eqb-true g 0 t) }))
+    (λ _. by-pick (eqb g 1) _ _ (λ x. x ≡ Ok r → Got p mark bs k o r)
+    (λ t q. subst (Got p mark bs k o) (ok-same (true, o + 1) r q)
+    (record { fits = tt; size = refl; within = l; spelt = byte-spelt bs k o l ∙ ap (λ v. v ∷ drop (k + (o + 1)) bs) (eqb-true g 1 t) }))
+    (λ t q. absurd (err-not-ok r (k + o) q))))
+    (λ l q. absurd (err-not-ok r (length bs) q))
 field-only (only c) p bs k o h b r =
     let g = getD bs (k + o) 0 in
     by-there bs (k + (o + 1)) _ (λ x. x ≡ Ok r → Got p (only c) bs k o r)
-      (λ l. by-pick (eqb g c) _ _ (λ x. x ≡ Ok r → Got p (only c) bs k o r)
-        (λ t q. subst (Got p (only c) bs k o) (ok-same (tt, o + 1) r q)
-          (record { fits = tt; size = refl; within = l; spelt = byte-spelt bs k o l ∙ ap (λ v. v ∷ drop (k + (o + 1)) bs) (eqb-true g c t) }))
-        (λ t q. absurd (err-not-ok r (k + o) q)))
-      (λ l q. absurd (err-not-ok r (length bs) q))
+    (λ l. by-pick (eqb g c) _ _ (λ x. x ≡ Ok r → Got p (only c) bs k o r)
+    (λ t q. subst (Got p (only c) bs k o) (ok-same (tt, o + 1) r q)
+    (record { fits = tt; size = refl; within = l; spelt = byte-spelt bs k o l ∙ ap (λ v. v ∷ drop (k + (o + 1)) bs) (eqb-true g c t) }))
+    (λ t q. absurd (err-not-ok r (k + o) q)))
+    (λ l q. absurd (err-not-ok r (length bs) q))
 field-only (row w) p bs k o h b r =
     let xs = drop (k + o) bs in
     let n = number 2 xs in
     let ys = drop (k + (o + 2)) bs in
     let v = numbers w n ys in
     by-there bs (k + (o + 2)) _ (λ x. x ≡ Ok r → Got p (row w) bs k o r)
-      (λ l. by-there bs (k + (o + 2 + w * n)) _ (λ x. x ≡ Ok r → Got p (row w) bs k o r)
-        (λ l2 q. subst (Got p (row w) bs k o) (ok-same (v, o + 2 + w * n) r q)
-          (row-got p bs k o w l l2 b))
-        (λ _ q. absurd (err-not-ok r (length bs) q)))
-      (λ l q. absurd (err-not-ok r (length bs) q))
+    (λ l. by-there bs (k + (o + 2 + w * n)) _ (λ x. x ≡ Ok r → Got p (row w) bs k o r)
+    (λ l2 q. subst (Got p (row w) bs k o) (ok-same (v, o + 2 + w * n) r q)
+    (row-got p bs k o w l l2 b))
+    (λ _ q. absurd (err-not-ok r (length bs) q)))
+    (λ l q. absurd (err-not-ok r (length bs) q))
   where
     row-got : (p : ℕ) (bs : List ℕ) (k o w : ℕ) → k + (o + 2) ≤ length bs → k + (o + 2 + w * number 2 (drop (k + o) bs)) ≤ length bs → Bytes bs →
         Got p (row w) bs k o (numbers w (number 2 (drop (k + o) bs)) (drop (k + (o + 2)) bs), o + 2 + w * number 2 (drop (k + o) bs))
@@ -195,9 +203,10 @@ field-only (row w) p bs k o h b r =
         let ly : w * n ≤ length ys = simp length-drop (omega arith) in
         let all : all-digits w v ≡ take (w * n) ys = all-digits-numbers w n ys ly (bytes-drop (k + (o + 2)) bs b) in
         let rest : ys ≡ all-digits w v ++ drop (k + to) bs =
-          some-more bs (k + (o + 2)) (w * n) (k + to) (omega arith) ∙ ap (λ t. t ++ drop (k + to) bs) (sym all) in
+        some-more bs (k + (o + 2)) (w * n) (k + to) (omega arith) ∙ ap (λ t. t ++ drop (k + to) bs) (sym all) in
         record {
           fits = (omega arith, numbers-small w n ys (bytes-drop (k + (o + 2)) bs b));
           size = omega arith;
           within = l2;
-          spelt = bytes-spelt bs k o 2 l b ∙ ap (λ t. digits 2 n ++ t) rest ∙ ap (λ m. digits 2 m ++ (all-digits w v ++ drop (k + to) bs)) (sym lv) }
+          spelt = bytes-spelt bs k o 2 l b ∙ ap (λ t. digits 2 n ++ t) rest ∙ ap (λ m. digits 2 m ++ (all-digits w v ++ drop (k + to) bs)) (sym lv);
+        }

@@ -1,7 +1,12 @@
-mod Adding
+pub mod Adding
 mod ByKind
-mod Digits
+pub mod Digits
+mod Ends
+pub mod EventLaws
+mod FieldFaults
+mod FieldLaws
 pub mod Rows
+mod Sequences
 mod Signs
 mod Tests
-mod FieldLaws
+pub mod WordLaws

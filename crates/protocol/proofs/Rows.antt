@@ -95,3 +95,12 @@ all-digits-numbers w (suc n) xs h b =
 pub length-row : (w n : ℕ) (xs : List ℕ) → length (all-digits w (numbers w n xs) ++ []) ≡ w * n
 length-row w n xs =
     simp length-append (omega (arith, length-all-digits w (numbers w n xs), ap (λ m. w * m) (length-numbers w n xs)))
+
+-- a row of single bytes is the bytes themselves
+pub numbers-one : (n : ℕ) (xs : List ℕ) → n ≤ length xs → numbers 1 n xs ≡ take n xs
+unfolding numbers number
+numbers-one zero xs h = refl
+numbers-one (suc n) [] h = absurd (let z : ⊥ = omega arith in z)
+numbers-one (suc n) (x ∷ xs) h =
+    let e : x + 256 * 0 ≡ x = omega arith in
+    ap (λ v. v ∷ numbers 1 n xs) e ∙ ap (λ t. x ∷ t) (numbers-one n xs (omega arith))

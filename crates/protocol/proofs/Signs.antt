@@ -25,13 +25,13 @@ stands-for h (negsuc m) a b =
 pub stood-for : (h n : ℕ) → n < h + h → (unsigned h (signed h n) ≡ n) × (negℤ (pos h) ≤ℤ signed h n) × (signed h n <ℤ pos h)
 stood-for h n l =
     elim (cases-lt n h) [
-      inl a ↦
-        (let s = signed-low h n (pos n) a refl in
-        let P : ℤ → Type 0 = λ z. (unsigned h z ≡ n) × (negℤ (pos h) ≤ℤ z) × (z <ℤ pos h) in
-        subst P s (sym (unsigned-above h (pos n) n (omega (arith, ints)) refl), omega (arith, ints), omega (arith, ints)))
-    | inr b ↦
-        (let z = pos n -ℤ pos (h + h) in
-        let s = signed-high h n z b refl in
-        let P : ℤ → Type 0 = λ z. (unsigned h z ≡ n) × (negℤ (pos h) ≤ℤ z) × (z <ℤ pos h) in
-        subst P s (sym (unsigned-below h z n (omega (arith, ints)) (omega (arith, ints))), omega (arith, ints), omega (arith, ints)))
+      | inl a ↦
+          (let s = signed-low h n (pos n) a refl in
+          let P : ℤ → Type 0 = λ z. (unsigned h z ≡ n) × (negℤ (pos h) ≤ℤ z) × (z <ℤ pos h) in
+          subst P s (sym (unsigned-above h (pos n) n (omega (arith, ints)) refl), omega (arith, ints), omega (arith, ints)))
+      | inr b ↦
+          (let z = pos n -ℤ pos (h + h) in
+          let s = signed-high h n z b refl in
+          let P : ℤ → Type 0 = λ z. (unsigned h z ≡ n) × (negℤ (pos h) ≤ℤ z) × (z <ℤ pos h) in
+          subst P s (sym (unsigned-below h z n (omega (arith, ints)) (omega (arith, ints))), omega (arith, ints), omega (arith, ints)))
     ]

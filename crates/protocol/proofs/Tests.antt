@@ -10,7 +10,7 @@ use lib.ListN.{length, getD, take, drop}
 use Rattle.std.specs.declared.result.Result.{Result}
 use Rattle.std.specs.declared.result.Result.the-variants.{Ok, Err}
 use Rattle.std.proofs.shelf.Tests.{ltb-true, ltb-false, le-ltb, lt-ltb}
-use Rattle.std.proofs.shelf.Lists.{length-append, length-drop, getD-drop, drop-drop, drop-at, drop-more, take-append-drop}
+use Rattle.std.proofs.shelf.Lists.{length-append, length-drop, getD-drop, drop-drop, drop-at, drop-more, take-append-drop, take-at}
 use Rattle.model.specs.Basics.{pick}
 use Rattle.protocol.specs.Fields.{Found, there, then}
 
@@ -58,3 +58,14 @@ one-more bs i j h e = drop-more bs i 0 h ∙ ap (λ n. getD bs i 0 ∷ drop n bs
 
 pub some-more : (bs : List ℕ) (i w j : ℕ) → j ≡ i + w → drop i bs ≡ take w (drop i bs) ++ drop j bs
 some-more bs i w j e = sym (take-append-drop w (drop i bs)) ∙ ap (λ t. take w (drop i bs) ++ t) (drop-drop w i bs ∙ ap (λ n. drop n bs) (sym e))
+
+-- an answer that is no find is a fault
+pub answer : {A : Type 0} (x : Found A) → ((r : A × ℕ) → x ≡ Ok r → ⊥) → (j : ℕ) × (x ≡ Err j)
+answer (Ok r) f = absurd (f r refl)
+answer (Err j) f = (j, refl)
+
+-- what was read, by its ends
+pub size-read : (bs xs : List ℕ) (k to : ℕ) → k < to → to ≤ length bs → drop k bs ≡ xs ++ drop to bs → take (to - k) (drop k bs) ≡ xs
+size-read bs xs k to a w e =
+    let l : length xs ≡ to - k = omega (arith, sym (length-drop k bs) ∙ ap length e ∙ length-append xs (drop to bs), length-drop to bs) in
+    ap (take (to - k)) e ∙ take-at xs (drop to bs) (to - k) l

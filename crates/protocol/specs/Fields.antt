@@ -110,7 +110,7 @@ field mark p bs k o =
 field (only b) p bs k o = there bs (k + (o + 1)) (pick (eqb (getD bs (k + o) 0) b) (Ok (tt, o + 1)) (Err (k + o)))
 field (row w) p bs k o =
     there bs (k + (o + 2)) (there bs (k + (o + 2 + w * number 2 (drop (k + o) bs)))
-      (Ok (numbers w (number 2 (drop (k + o) bs)) (drop (k + (o + 2)) bs), o + 2 + w * number 2 (drop (k + o) bs))))
+    (Ok (numbers w (number 2 (drop (k + o) bs)) (drop (k + (o + 2)) bs), o + 2 + w * number 2 (drop (k + o) bs))))
 
 -- Several fields, one after another.
 

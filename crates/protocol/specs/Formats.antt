@@ -107,8 +107,9 @@ encode-word c (typed n k) = word-line c 5 n k
 encode-word c (pasted n l) = word-line c 6 n l
 
 -- The word at the byte k of a row, with the program that is told, and where it ends; or the first byte in fault.
+-- (No field of a word is tested against the number of programs.)
 abbrev pub decode-word-kind : ℕ → List ℕ → ℕ → Found Word
-decode-word-kind q bs k = decode (word-format q .fields) (word-format q .says) 0 bs k 2
+decode-word-kind q bs k = decode (word-format q .fields) (word-format q .says) 256 bs k 2
 
 abbrev pub told : ℕ → Found Word → Found (ℕ × Word)
 told c (Ok r) = Ok ((c, r .0), r .1)

@@ -1,7 +1,7 @@
 -- What is read is what was written, and only that: the theorems about events and words in bytes.
 use mathlib.Core.Path.{_≡_}
 use mathlib.Core.Bool.{Bool, true}
-use mathlib.Core.List.{List, _++_}
+use mathlib.Core.List.{List, [], _∷_, _++_}
 use Prim.Native.Nat.{ℕ, suc, _+_, _-_, _≤_, _<_}
 use lib.IntN.{ℤ, pos, negℤ}
 use lib.Signed.{_≤ℤ_}
@@ -119,3 +119,10 @@ Word-faults-first =
 unfoldable pub Word-faults-where-none : Type 0
 Word-faults-where-none =
     (bs : List ℕ) (k : ℕ) → Bytes bs → ((m : ℕ × Word) → Told m → Stands-at spell-told bs k m → ⊥) → (j : ℕ) × (read-told bs k ≡ Err j)
+
+-- Three rows of bytes worked out.
+unfoldable pub Worked : Type 0
+Worked =
+    (encode (put 0 2 1 300 (7 ∷ 8 ∷ 16711680 ∷ [])) ≡ 6 ∷ 0 ∷ 2 ∷ 1 ∷ 0 ∷ 44 ∷ 1 ∷ 3 ∷ 0 ∷ 7 ∷ 0 ∷ 0 ∷ 0 ∷ 8 ∷ 0 ∷ 0 ∷ 0 ∷ 0 ∷ 0 ∷ 255 ∷ 0 ∷ []) ×
+    (encode (make 0 (negℤ (pos 1)) (pos 0) 3 1) ≡ 0 ∷ 0 ∷ 255 ∷ 255 ∷ 0 ∷ 0 ∷ 3 ∷ 0 ∷ 1 ∷ 0 ∷ []) ×
+    (encode-word 1 (typed 4 65) ≡ 1 ∷ 5 ∷ 4 ∷ 65 ∷ 0 ∷ 0 ∷ 0 ∷ [])

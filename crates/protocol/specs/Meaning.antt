@@ -1,7 +1,7 @@
 -- What the values of the code mean: events and words of the desk, and what a reader found.
 use mathlib.Core.Bool.{Bool, true, false}
 use mathlib.Core.List.{List}
-use Prim.Native.Nat.{ℕ, _+_, _*_}
+use Prim.Native.Nat.{ℕ, _+_, _*_, _<_, _≤_}
 use lib.Dec.{leb}
 use lib.ListN.{getD, drop, length}
 use Rattle.std.specs.declared.result.Result.{Result}
@@ -63,6 +63,11 @@ word-said bs (Err e) = Err (e .place)
 abbrev pub told-said : List ℕ → Result ((ℕ × Word) × ℕ) Fault → Found (ℕ × desk.Word)
 told-said bs (Ok r) = Ok ((r .0 .0, word-meaning bs (r .0 .1)), r .1)
 told-said bs (Err e) = Err (e .place)
+
+-- what was read at the byte k ends behind it and within the bytes; a fault is within them, and fits 32 bits
+abbrev pub Ends : {A : Type 0} → List ℕ → ℕ → Result (A × ℕ) Fault → Type 0
+Ends bs k (Ok r) = (k < r .1) × (r .1 ≤ length bs)
+Ends bs k (Err e) = (e .place ≤ length bs) × (e .place < 4294967296)
 
 -- a part of elements of w bytes each lies in the bytes bs
 abbrev pub lies : ℕ → List ℕ → Part → Bool

@@ -18,18 +18,28 @@ use crate::types::Part;
 pub fn need(call: &[u8], to: usize) -> Result<(), Fault>
     ensures { λ r. ⌜ elim r [ Ok _ ↦ to ≤ length (now (call .entry)) | Err e ↦ (length (now (call .entry)) < to) × (e .place ≡ length (now (call .entry))) ] ⌝ }
 {
-    if to <= call.len() { Ok(()) } else { Err(Fault { place: call.len() }) }
+    if to <= call.len() {
+        Ok(())
+    } else {
+        Err(Fault { place: call.len() })
+    }
 }
 
 // The number of a program: one byte.
 pub fn read_program(call: &[u8], at: usize, programs: u8) -> Result<u8, Fault>
     requires { ⌜ at < 2 ^ 63 ⌝ }
-    ensures { λ r. ⌜ elim r [ Ok c ↦ (at < length (now (call .entry))) × (c ≡ getD (now (call .entry)) at 0) × (c < programs)
-        | Err e ↦ (length (now (call .entry)) ≤ at × (e .place ≡ length (now (call .entry)))) ⊎ ((at < length (now (call .entry))) × (programs ≤ getD (now (call .entry)) at 0) × (e .place ≡ at)) ] ⌝ }
+    ensures { λ r. ⌜ elim r [
+      | Ok c ↦ (at < length (now (call .entry))) × (c ≡ getD (now (call .entry)) at 0) × (c < programs)
+      | Err e ↦ (length (now (call .entry)) ≤ at × (e .place ≡ length (now (call .entry)))) ⊎ ((at < length (now (call .entry))) × (programs ≤ getD (now (call .entry)) at 0) × (e .place ≡ at))
+    ] ⌝ }
 {
     need(call, at + 1)?;
     let c = call[at];
-    if c < programs { Ok(c) } else { Err(Fault { place: at }) }
+    if c < programs {
+        Ok(c)
+    } else {
+        Err(Fault { place: at })
+    }
 }
 
 // A mark: one byte, 0 or 1.
@@ -54,7 +64,16 @@ pub fn read_make(call: &[u8], at: usize, programs: u8) -> Result<(Event, usize),
     let y = read_near(call, at + 4);
     let wide = read_two(call, at + 6);
     let high = read_two(call, at + 8);
-    Ok((Event::Make { program, x, y, wide, high }, at + 10))
+    Ok((
+        Event::Make {
+            program,
+            x,
+            y,
+            wide,
+            high,
+        },
+        at + 10,
+    ))
 }
 
 pub fn read_close(call: &[u8], at: usize, programs: u8) -> Result<(Event, usize), Fault>
@@ -63,7 +82,13 @@ pub fn read_close(call: &[u8], at: usize, programs: u8) -> Result<(Event, usize)
 {
     let program = read_program(call, at + 1, programs)?;
     need(call, at + 3)?;
-    Ok((Event::Close { program, window: call[at + 2] }, at + 3))
+    Ok((
+        Event::Close {
+            program,
+            window: call[at + 2],
+        },
+        at + 3,
+    ))
 }
 
 pub fn read_move(call: &[u8], at: usize, programs: u8) -> Result<(Event, usize), Fault>
@@ -74,7 +99,15 @@ pub fn read_move(call: &[u8], at: usize, programs: u8) -> Result<(Event, usize),
     need(call, at + 7)?;
     let x = read_near(call, at + 3);
     let y = read_near(call, at + 5);
-    Ok((Event::Move { program, window: call[at + 2], x, y }, at + 7))
+    Ok((
+        Event::Move {
+            program,
+            window: call[at + 2],
+            x,
+            y,
+        },
+        at + 7,
+    ))
 }
 
 pub fn read_raise(call: &[u8], at: usize, programs: u8) -> Result<(Event, usize), Fault>
@@ -83,7 +116,13 @@ pub fn read_raise(call: &[u8], at: usize, programs: u8) -> Result<(Event, usize)
 {
     let program = read_program(call, at + 1, programs)?;
     need(call, at + 3)?;
-    Ok((Event::Raise { program, window: call[at + 2] }, at + 3))
+    Ok((
+        Event::Raise {
+            program,
+            window: call[at + 2],
+        },
+        at + 3,
+    ))
 }
 
 pub fn read_show(call: &[u8], at: usize, programs: u8) -> Result<(Event, usize), Fault>
@@ -93,7 +132,14 @@ pub fn read_show(call: &[u8], at: usize, programs: u8) -> Result<(Event, usize),
     let program = read_program(call, at + 1, programs)?;
     need(call, at + 4)?;
     let on = read_mark(call, at + 3)?;
-    Ok((Event::Show { program, window: call[at + 2], on }, at + 4))
+    Ok((
+        Event::Show {
+            program,
+            window: call[at + 2],
+            on,
+        },
+        at + 4,
+    ))
 }
 
 pub fn read_fill(call: &[u8], at: usize, programs: u8) -> Result<(Event, usize), Fault>
@@ -107,7 +153,18 @@ pub fn read_fill(call: &[u8], at: usize, programs: u8) -> Result<(Event, usize),
     let wide = read_two(call, at + 7);
     let high = read_two(call, at + 9);
     let colour = read_four(call, at + 11);
-    Ok((Event::Fill { program, window: call[at + 2], x, y, wide, high, colour }, at + 15))
+    Ok((
+        Event::Fill {
+            program,
+            window: call[at + 2],
+            x,
+            y,
+            wide,
+            high,
+            colour,
+        },
+        at + 15,
+    ))
 }
 
 pub fn read_put(call: &[u8], at: usize, programs: u8) -> Result<(Event, usize), Fault>
@@ -120,8 +177,20 @@ pub fn read_put(call: &[u8], at: usize, programs: u8) -> Result<(Event, usize), 
     need(call, at + (9 + 4 * count as usize))?;
     let x = read_two(call, at + 3);
     let y = read_two(call, at + 5);
-    let colours = Part { from: at + 9, count };
-    Ok((Event::Put { program, window: call[at + 2], x, y, colours }, at + (9 + 4 * count as usize)))
+    let colours = Part {
+        from: at + 9,
+        count,
+    };
+    Ok((
+        Event::Put {
+            program,
+            window: call[at + 2],
+            x,
+            y,
+            colours,
+        },
+        at + (9 + 4 * count as usize),
+    ))
 }
 
 pub fn read_copy(call: &[u8], at: usize, programs: u8) -> Result<(Event, usize), Fault>
@@ -136,7 +205,19 @@ pub fn read_copy(call: &[u8], at: usize, programs: u8) -> Result<(Event, usize),
     let high = read_two(call, at + 9);
     let to_x = read_two(call, at + 11);
     let to_y = read_two(call, at + 13);
-    Ok((Event::Copy { program, window: call[at + 2], x, y, wide, high, to_x, to_y }, at + 15))
+    Ok((
+        Event::Copy {
+            program,
+            window: call[at + 2],
+            x,
+            y,
+            wide,
+            high,
+            to_x,
+            to_y,
+        },
+        at + 15,
+    ))
 }
 
 pub fn read_offer(call: &[u8], at: usize, programs: u8) -> Result<(Event, usize), Fault>
@@ -147,7 +228,10 @@ pub fn read_offer(call: &[u8], at: usize, programs: u8) -> Result<(Event, usize)
     need(call, at + 4)?;
     let count = read_two(call, at + 2);
     need(call, at + (4 + count as usize))?;
-    let bytes = Part { from: at + 4, count };
+    let bytes = Part {
+        from: at + 4,
+        count,
+    };
     Ok((Event::Offer { program, bytes }, at + (4 + count as usize)))
 }
 
@@ -175,7 +259,12 @@ pub fn read_key(call: &[u8], at: usize) -> Result<(Event, usize), Fault>
     ensures { λ r. ⌜ ((p : ℕ) → said (now (call .entry)) r ≡ decode-kind 11 p (now (call .entry)) at) ⌝ }
 {
     need(call, at + 5)?;
-    Ok((Event::Key { key: read_four(call, at + 1) }, at + 5))
+    Ok((
+        Event::Key {
+            key: read_four(call, at + 1),
+        },
+        at + 5,
+    ))
 }
 
 // What follows the byte of a kind that there is.

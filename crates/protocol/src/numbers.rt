@@ -24,7 +24,11 @@ pub fn read_near(bytes: &[u8], at: usize) -> i16
     ensures { λ r. ⌜ r ≡ signed 32768 (number 2 (drop at (now (bytes .entry)))) ⌝ }
 {
     let n = read_two(bytes, at) as i32;
-    if n < 32768 { n as i16 } else { (n - 65536) as i16 }
+    if n < 32768 {
+        n as i16
+    } else {
+        (n - 65536) as i16
+    }
 }
 
 // Four bytes with sign.
@@ -33,5 +37,9 @@ pub fn read_far(bytes: &[u8], at: usize) -> i32
     ensures { λ r. ⌜ r ≡ signed 2147483648 (number 4 (drop at (now (bytes .entry)))) ⌝ }
 {
     let n = read_four(bytes, at) as i64;
-    if n < 2147483648 { n as i32 } else { (n - 4294967296) as i32 }
+    if n < 2147483648 {
+        n as i32
+    } else {
+        (n - 4294967296) as i32
+    }
 }

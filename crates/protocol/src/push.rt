@@ -73,7 +73,11 @@ fn of_far(v: i32) -> u32
     ensures { λ r. ⌜ r ≡ unsigned 2147483648 v ⌝ }
 {
     let n = v as i64;
-    if n < 0 { (n + 4294967296) as u32 } else { n as u32 }
+    if n < 0 {
+        (n + 4294967296) as u32
+    } else {
+        n as u32
+    }
 }
 
 pub fn push_mark(out: &mut [u8], at: usize, b: bool) -> usize

@@ -63,7 +63,13 @@ pub fn write_at(out: &mut [u8], at: usize, program: u8, window: u8, x: i32, y: i
     Some(11)
 }
 
-pub fn write_pressed(out: &mut [u8], at: usize, program: u8, window: u8, down: bool) -> Option<usize>
+pub fn write_pressed(
+    out: &mut [u8],
+    at: usize,
+    program: u8,
+    window: u8,
+    down: bool,
+) -> Option<usize>
     ensures { λ r. ⌜ Wrote true at (word-line program 4 window down) (now (out .entry)) (now (out .exit)) r ⌝ }
 {
     if !room(out.len(), at, 4) {
@@ -89,7 +95,14 @@ pub fn write_typed(out: &mut [u8], at: usize, program: u8, window: u8, key: u32)
     Some(7)
 }
 
-pub fn write_pasted(out: &mut [u8], at: usize, program: u8, source: &[u8], window: u8, bytes: Part) -> Option<usize>
+pub fn write_pasted(
+    out: &mut [u8],
+    at: usize,
+    program: u8,
+    source: &[u8],
+    window: u8,
+    bytes: Part,
+) -> Option<usize>
     ensures { λ r. ⌜ Wrote (lies 1 (now (source .entry)) bytes) at (word-line program 6 window (part 1 (now (source .entry)) bytes)) (now (out .entry)) (now (out .exit)) r ⌝ }
 {
     let size = bytes.count as usize;

@@ -18,11 +18,17 @@ use crate::types::Word;
 // In place of a window's number stands 255.
 fn read_none(words: &[u8], at: usize) -> Result<(), Fault>
     requires { ⌜ at < 2 ^ 63 ⌝ }
-    ensures { λ r. ⌜ elim r [ Ok _ ↦ (at < length (now (words .entry))) × (getD (now (words .entry)) at 0 ≡ 255)
-        | Err e ↦ (length (now (words .entry)) ≤ at × (e .place ≡ length (now (words .entry)))) ⊎ ((at < length (now (words .entry))) × (getD (now (words .entry)) at 0 < 255) × (e .place ≡ at)) ] ⌝ }
+    ensures { λ r. ⌜ elim r [
+      | Ok _ ↦ (at < length (now (words .entry))) × (getD (now (words .entry)) at 0 ≡ 255)
+      | Err e ↦ (length (now (words .entry)) ≤ at × (e .place ≡ length (now (words .entry)))) ⊎ ((at < length (now (words .entry))) × (getD (now (words .entry)) at 0 < 255) × (e .place ≡ at))
+    ] ⌝ }
 {
     need(words, at + 1)?;
-    if words[at] == 255 { Ok(()) } else { Err(Fault { place: at }) }
+    if words[at] == 255 {
+        Ok(())
+    } else {
+        Err(Fault { place: at })
+    }
 }
 
 fn read_no(words: &[u8], at: usize) -> Result<(Word, usize), Fault>
@@ -46,7 +52,12 @@ fn read_made(words: &[u8], at: usize) -> Result<(Word, usize), Fault>
     ensures { λ r. ⌜ word-said (now (words .entry)) r ≡ decode-word-kind 2 (now (words .entry)) at ⌝ }
 {
     need(words, at + 3)?;
-    Ok((Word::Made { window: words[at + 2] }, at + 3))
+    Ok((
+        Word::Made {
+            window: words[at + 2],
+        },
+        at + 3,
+    ))
 }
 
 fn read_at(words: &[u8], at: usize) -> Result<(Word, usize), Fault>
@@ -56,7 +67,14 @@ fn read_at(words: &[u8], at: usize) -> Result<(Word, usize), Fault>
     need(words, at + 11)?;
     let x = read_far(words, at + 3);
     let y = read_far(words, at + 7);
-    Ok((Word::At { window: words[at + 2], x, y }, at + 11))
+    Ok((
+        Word::At {
+            window: words[at + 2],
+            x,
+            y,
+        },
+        at + 11,
+    ))
 }
 
 fn read_pressed(words: &[u8], at: usize) -> Result<(Word, usize), Fault>
@@ -65,7 +83,13 @@ fn read_pressed(words: &[u8], at: usize) -> Result<(Word, usize), Fault>
 {
     need(words, at + 4)?;
     let down = read_mark(words, at + 3)?;
-    Ok((Word::Pressed { window: words[at + 2], down }, at + 4))
+    Ok((
+        Word::Pressed {
+            window: words[at + 2],
+            down,
+        },
+        at + 4,
+    ))
 }
 
 fn read_typed(words: &[u8], at: usize) -> Result<(Word, usize), Fault>
@@ -73,7 +97,13 @@ fn read_typed(words: &[u8], at: usize) -> Result<(Word, usize), Fault>
     ensures { λ r. ⌜ word-said (now (words .entry)) r ≡ decode-word-kind 5 (now (words .entry)) at ⌝ }
 {
     need(words, at + 7)?;
-    Ok((Word::Typed { window: words[at + 2], key: read_four(words, at + 3) }, at + 7))
+    Ok((
+        Word::Typed {
+            window: words[at + 2],
+            key: read_four(words, at + 3),
+        },
+        at + 7,
+    ))
 }
 
 fn read_pasted(words: &[u8], at: usize) -> Result<(Word, usize), Fault>
@@ -83,8 +113,17 @@ fn read_pasted(words: &[u8], at: usize) -> Result<(Word, usize), Fault>
     need(words, at + 5)?;
     let count = read_two(words, at + 3);
     need(words, at + (5 + count as usize))?;
-    let bytes = Part { from: at + 5, count };
-    Ok((Word::Pasted { window: words[at + 2], bytes }, at + (5 + count as usize)))
+    let bytes = Part {
+        from: at + 5,
+        count,
+    };
+    Ok((
+        Word::Pasted {
+            window: words[at + 2],
+            bytes,
+        },
+        at + (5 + count as usize),
+    ))
 }
 
 // What follows the byte of a kind that there is.

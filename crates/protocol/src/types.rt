@@ -11,18 +11,72 @@ pub struct Part {
 // An event. Those from `Make` to `Offer` come from a program, the others from the person at the desk.
 #[derive(Clone, Copy)]
 pub enum Event {
-    Make { program: u8, x: i16, y: i16, wide: u16, high: u16 },
-    Close { program: u8, window: u8 },
-    Move { program: u8, window: u8, x: i16, y: i16 },
-    Raise { program: u8, window: u8 },
-    Show { program: u8, window: u8, on: bool },
-    Fill { program: u8, window: u8, x: u16, y: u16, wide: u16, high: u16, colour: u32 },
-    Put { program: u8, window: u8, x: u16, y: u16, colours: Part },
-    Copy { program: u8, window: u8, x: u16, y: u16, wide: u16, high: u16, to_x: u16, to_y: u16 },
-    Offer { program: u8, bytes: Part },
-    Point { x: i16, y: i16 },
-    Press { down: bool },
-    Key { key: u32 },
+    Make {
+        program: u8,
+        x: i16,
+        y: i16,
+        wide: u16,
+        high: u16,
+    },
+    Close {
+        program: u8,
+        window: u8,
+    },
+    Move {
+        program: u8,
+        window: u8,
+        x: i16,
+        y: i16,
+    },
+    Raise {
+        program: u8,
+        window: u8,
+    },
+    Show {
+        program: u8,
+        window: u8,
+        on: bool,
+    },
+    Fill {
+        program: u8,
+        window: u8,
+        x: u16,
+        y: u16,
+        wide: u16,
+        high: u16,
+        colour: u32,
+    },
+    Put {
+        program: u8,
+        window: u8,
+        x: u16,
+        y: u16,
+        colours: Part,
+    },
+    Copy {
+        program: u8,
+        window: u8,
+        x: u16,
+        y: u16,
+        wide: u16,
+        high: u16,
+        to_x: u16,
+        to_y: u16,
+    },
+    Offer {
+        program: u8,
+        bytes: Part,
+    },
+    Point {
+        x: i16,
+        y: i16,
+    },
+    Press {
+        down: bool,
+    },
+    Key {
+        key: u32,
+    },
     Paste,
 }
 

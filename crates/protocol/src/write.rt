@@ -6,15 +6,23 @@ ghost use Rattle.protocol.specs.Added.{Wrote};
 ghost use Rattle.protocol.specs.Formats.{line};
 ghost use Rattle.protocol.specs.Meaning.{part, lies};
 use crate::push::push;
-use crate::push::push_near;
 use crate::push::push_four;
 use crate::push::push_mark;
+use crate::push::push_near;
 use crate::push::push_row;
 use crate::push::push_two;
 use crate::push::room;
 use crate::types::Part;
 
-pub fn write_make(out: &mut [u8], at: usize, program: u8, x: i16, y: i16, wide: u16, high: u16) -> Option<usize>
+pub fn write_make(
+    out: &mut [u8],
+    at: usize,
+    program: u8,
+    x: i16,
+    y: i16,
+    wide: u16,
+    high: u16,
+) -> Option<usize>
     ensures { λ r. ⌜ Wrote true at (line 0 program x y wide high) (now (out .entry)) (now (out .exit)) r ⌝ }
 {
     if !room(out.len(), at, 10) {
@@ -41,7 +49,14 @@ pub fn write_close(out: &mut [u8], at: usize, program: u8, window: u8) -> Option
     Some(3)
 }
 
-pub fn write_move(out: &mut [u8], at: usize, program: u8, window: u8, x: i16, y: i16) -> Option<usize>
+pub fn write_move(
+    out: &mut [u8],
+    at: usize,
+    program: u8,
+    window: u8,
+    x: i16,
+    y: i16,
+) -> Option<usize>
     ensures { λ r. ⌜ Wrote true at (line 2 program window x y) (now (out .entry)) (now (out .exit)) r ⌝ }
 {
     if !room(out.len(), at, 7) {
@@ -80,7 +95,17 @@ pub fn write_show(out: &mut [u8], at: usize, program: u8, window: u8, on: bool) 
     Some(4)
 }
 
-pub fn write_fill(out: &mut [u8], at: usize, program: u8, window: u8, x: u16, y: u16, wide: u16, high: u16, colour: u32) -> Option<usize>
+pub fn write_fill(
+    out: &mut [u8],
+    at: usize,
+    program: u8,
+    window: u8,
+    x: u16,
+    y: u16,
+    wide: u16,
+    high: u16,
+    colour: u32,
+) -> Option<usize>
     ensures { λ r. ⌜ Wrote true at (line 5 program window x y wide high colour) (now (out .entry)) (now (out .exit)) r ⌝ }
 {
     if !room(out.len(), at, 15) {
@@ -97,7 +122,16 @@ pub fn write_fill(out: &mut [u8], at: usize, program: u8, window: u8, x: u16, y:
     Some(15)
 }
 
-pub fn write_put(out: &mut [u8], at: usize, source: &[u8], program: u8, window: u8, x: u16, y: u16, colours: Part) -> Option<usize>
+pub fn write_put(
+    out: &mut [u8],
+    at: usize,
+    source: &[u8],
+    program: u8,
+    window: u8,
+    x: u16,
+    y: u16,
+    colours: Part,
+) -> Option<usize>
     ensures { λ r. ⌜ Wrote (lies 4 (now (source .entry)) colours) at (line 6 program window x y (part 4 (now (source .entry)) colours)) (now (out .entry)) (now (out .exit)) r ⌝ }
 {
     let size = 4 * colours.count as usize;
@@ -116,7 +150,18 @@ pub fn write_put(out: &mut [u8], at: usize, source: &[u8], program: u8, window: 
     Some(9 + size)
 }
 
-pub fn write_copy(out: &mut [u8], at: usize, program: u8, window: u8, x: u16, y: u16, wide: u16, high: u16, to_x: u16, to_y: u16) -> Option<usize>
+pub fn write_copy(
+    out: &mut [u8],
+    at: usize,
+    program: u8,
+    window: u8,
+    x: u16,
+    y: u16,
+    wide: u16,
+    high: u16,
+    to_x: u16,
+    to_y: u16,
+) -> Option<usize>
     ensures { λ r. ⌜ Wrote true at (line 7 program window x y wide high «to_x» «to_y») (now (out .entry)) (now (out .exit)) r ⌝ }
 {
     if !room(out.len(), at, 15) {
@@ -134,7 +179,13 @@ pub fn write_copy(out: &mut [u8], at: usize, program: u8, window: u8, x: u16, y:
     Some(15)
 }
 
-pub fn write_offer(out: &mut [u8], at: usize, source: &[u8], program: u8, bytes: Part) -> Option<usize>
+pub fn write_offer(
+    out: &mut [u8],
+    at: usize,
+    source: &[u8],
+    program: u8,
+    bytes: Part,
+) -> Option<usize>
     ensures { λ r. ⌜ Wrote (lies 1 (now (source .entry)) bytes) at (line 8 program (part 1 (now (source .entry)) bytes)) (now (out .entry)) (now (out .exit)) r ⌝ }
 {
     let size = bytes.count as usize;

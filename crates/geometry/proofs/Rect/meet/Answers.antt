@@ -1,11 +1,5 @@
-<<<<<<< HEAD
-use mathlib.Core.Path.{_≡_, _∙_}
-use native.Mathlib.Omega.{arith}
-use borrow.Author.Needs.{needs}
-=======
 use mathlib.Core.Path.{_∙_}
 use native.Mathlib.Omega.{arith}
->>>>>>> region
 use Rattle.geometry.proofs.Spans.{rect-meet, neat-more}
 use Rattle.geometry.proofs.Rect.meet.Needs as need
 

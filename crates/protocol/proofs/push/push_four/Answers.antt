@@ -7,4 +7,5 @@ pub returns : need.returns
 returns c =
     record {
       added = added-as _ _ _ _ _ _ (digits-four (c .args .v)) (added-then _ _ _ _ _ _ _ _ (c .push-two-at .ensures .added) (c .push-two .ensures .added));
-      to = omega arith }
+      to = omega arith;
+    }

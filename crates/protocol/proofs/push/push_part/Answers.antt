@@ -14,4 +14,5 @@ returns c =
     let l : length (take n s) ≡ n = simp (length-take, length-drop) (omega arith) in
     record {
       added = added-part (c .args .at) n _ _ (take n s) _ (omega arith) l (omega arith) (c .copy-from-slice .ensures .after ∙ ap (λ m. take m s) (omega arith));
-      to = refl }
+      to = refl;
+    }

@@ -17,11 +17,12 @@ returns c =
     let xs = drop from src in
     record {
       added = λ w e.
-        let b : Bytes src = λ i. omega (arith, c .typed .source i) in
-        let l : w * n ≤ length xs = simp length-drop (omega arith) in
-        let d : take (c .args .size) xs ≡ all-digits w (numbers w n xs) =
+          let b : Bytes src = λ i. omega (arith, c .typed .source i) in
+          let l : w * n ≤ length xs = simp length-drop (omega arith) in
+          let d : take (c .args .size) xs ≡ all-digits w (numbers w n xs) =
           ap (λ m. take m xs) e ∙ sym (all-digits-numbers w n xs l (bytes-drop from src b)) in
-        let k : digits 2 n ≡ digits 2 (length (numbers w n xs)) = ap (digits 2) (sym (length-numbers w n xs)) in
-        added-as _ _ _ _ _ _ (ap (λ t. t ++ take (c .args .size) xs) k ∙ ap (λ t. digits 2 (length (numbers w n xs)) ++ t) d)
+          let k : digits 2 n ≡ digits 2 (length (numbers w n xs)) = ap (digits 2) (sym (length-numbers w n xs)) in
+          added-as _ _ _ _ _ _ (ap (λ t. t ++ take (c .args .size) xs) k ∙ ap (λ t. digits 2 (length (numbers w n xs)) ++ t) d)
           (added-then _ _ _ _ _ _ _ _ (c .push-two-at .ensures .added) (c .push-part .ensures .added));
-      to = omega arith }
+      to = omega arith;
+    }

@@ -7,4 +7,5 @@ pub returns : need.returns
 returns c =
     record {
       added = added-as _ _ _ _ _ _ (digits-two (c .args .v) (omega arith)) (added-then _ _ _ _ _ _ _ _ (c .push-at .ensures .added) (c .push .ensures .added));
-      to = omega arith }
+      to = omega arith;
+    }

@@ -9,4 +9,4 @@ returns c =
     let fx = c .fits .x in
     let fy = c .fits .y in
     wrote _ _ 7 _ _ _ (search needs) refl
-      (added-then _ _ _ _ _ _ _ _ (c .push-at .ensures .added) (added-then _ _ _ _ _ _ _ _ (c .push-at-2 .ensures .added) (added-then _ _ _ _ _ _ _ _ (c .push-at-3 .ensures .added) (added-then _ _ _ _ _ _ _ _ (simp toZ-ofZ at (c .push-near-at .ensures .added)) (added-last _ _ _ _ _ (simp toZ-ofZ at (c .push-near .ensures .added)))))))
+    (added-then _ _ _ _ _ _ _ _ (c .push-at .ensures .added) (added-then _ _ _ _ _ _ _ _ (c .push-at-2 .ensures .added) (added-then _ _ _ _ _ _ _ _ (c .push-at-3 .ensures .added) (added-then _ _ _ _ _ _ _ _ (simp toZ-ofZ at (c .push-near-at .ensures .added)) (added-last _ _ _ _ _ (simp toZ-ofZ at (c .push-near .ensures .added)))))))
