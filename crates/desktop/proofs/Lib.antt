@@ -2,3 +2,4 @@ pub mod Carrying
 pub mod Arranging
 mod Making
 pub mod Painted
+mod Lent

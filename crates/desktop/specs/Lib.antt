@@ -2,3 +2,4 @@ pub mod Gaps
 pub mod Does
 pub mod Windows
 pub mod Painting
+pub mod Lent

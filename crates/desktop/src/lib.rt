@@ -3,3 +3,4 @@ pub mod told;
 pub mod gaps;
 pub mod windows;
 pub mod paint;
+pub mod laws;

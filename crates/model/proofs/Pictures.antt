@@ -14,7 +14,7 @@ use Rattle.model.proofs.Picks.{by-pick}
 use Rattle.model.proofs.Windows.{window-other, order-window, hands-window, clip-window, pointer-window, down-window, up-window, not-free, not-mine, window-field, gone-window}
 
 -- a window that is still there has the same dots
-abbrev Same-dots : Desk → ℕ → ℕ → ℕ → Desk × List (ℕ × Word) → Type 0
+abbrev pub Same-dots : Desk → ℕ → ℕ → ℕ → Desk × List (ℕ × Word) → Type 0
 Same-dots d n i j r = window (r .0) n .there ≡ true → window (r .0) n .dots i j ≡ window d n .dots i j
 
 all-same : (d d′ : Desk) (n i j : ℕ) → window d′ n ≡ window d n → window d′ n .dots i j ≡ window d n .dots i j
@@ -51,10 +51,14 @@ does-dots z d (press false) n i j t o = λ _. all-same d _ n i j (up-window d n 
 does-dots z d (key k) n i j t o = λ _. refl
 does-dots z d paste n i j t o = λ _. refl
 
+-- of any desk
+pub after-dots : (z : Sizes) (d : Desk) (e : Event) (n i j : ℕ) → window d n .there ≡ true → (is-paint e ≡ true → window d n .owner ≡ painter e → ⊥) → Same-dots d n i j (after z d e)
+unfolding after
+after-dots z d e n i j t o = by-pick (z .built (kind e)) (does z d e) (d, sender e) (Same-dots d n i j) (λ _. does-dots z d e n i j t o) (λ _ _. refl)
+
 pub by-paint : By-paint
-unfolding By-paint after
-by-paint z es e n i j t u o =
-    by-pick (z .built (kind e)) (does z (run z (empty z) es) e) (run z (empty z) es, sender e) (Same-dots (run z (empty z) es) n i j) (λ _. does-dots z (run z (empty z) es) e n i j t o) (λ _ _. refl) u
+unfolding By-paint
+by-paint z es e n i j t u o = after-dots z (run z (empty z) es) e n i j t o u
 
 pub by-owner : By-owner
 unfolding By-owner By-paint
