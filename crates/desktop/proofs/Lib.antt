@@ -3,3 +3,4 @@ pub mod Arranging
 mod Making
 pub mod Painted
 mod Lent
+mod Hearing

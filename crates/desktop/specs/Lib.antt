@@ -3,3 +3,4 @@ pub mod Does
 pub mod Windows
 pub mod Painting
 pub mod Lent
+pub mod Person

@@ -4,3 +4,6 @@ pub mod gaps;
 pub mod windows;
 pub mod paint;
 pub mod laws;
+pub mod person;
+pub mod carry;
+pub mod look;
