@@ -4,3 +4,4 @@ mod Making
 pub mod Painted
 mod Lent
 mod Hearing
+mod Looking

@@ -29,8 +29,7 @@ pub fn carry_out(z: Sizes, s: &mut State, pictures: &mut [u32], call: &[u8], e: 
         Event::Copy { program, window, x, y, wide, high, to_x, to_y } => paint::copy(s, pictures, program, window, x, y, wide, high, to_x, to_y),
         Event::Offer { program, bytes } => person::offer(s, call, program, bytes),
         Event::Point { x, y } => person::point(z, s, x, y),
-        Event::Press { down: true } => person::press_down(s),
-        Event::Press { down: false } => person::press_up(s),
+        Event::Press { down } => person::press(s, down),
         Event::Key { key } => person::key(s, key),
         Event::Paste => person::paste(s),
     }

@@ -71,7 +71,7 @@ pub fn paste(s: &State) -> Option<Told>
 }
 
 // The button goes down: the window in front at the pointer has the keys and holds the pointer; if there is none nobody has.
-pub fn press_down(s: &mut State) -> Option<Told>
+fn press_down(s: &mut State) -> Option<Told>
     ensures { λ r. ⌜ ((z : Sizes) (p : List ℕ) → Good (sizes-of z) (now (s .entry)) (length p) → Carried (sizes-of z) (pressing true) (now (s .entry)) p (now (s .exit)) p r) ⌝ }
 {
     let Some((n, w)) = s.stack.front_window(s.x, s.y) else {
@@ -85,7 +85,7 @@ pub fn press_down(s: &mut State) -> Option<Told>
 }
 
 // The button comes up: the window that holds the pointer is told, and nobody holds it.
-pub fn press_up(s: &mut State) -> Option<Told>
+fn press_up(s: &mut State) -> Option<Told>
     ensures { λ r. ⌜ ((z : Sizes) (p : List ℕ) → Good (sizes-of z) (now (s .entry)) (length p) → Carried (sizes-of z) (pressing false) (now (s .entry)) p (now (s .exit)) p r) ⌝ }
 {
     let Some((n, w)) = known(s, s.held) else {
@@ -93,6 +93,13 @@ pub fn press_up(s: &mut State) -> Option<Told>
     };
     s.held = None;
     Some(Told { program: w.owner, word: Word::Pressed { window: n, down: false } })
+}
+
+// The button goes down or comes up.
+pub fn press(s: &mut State, down: bool) -> Option<Told>
+    ensures { λ r. ⌜ ((z : Sizes) (p : List ℕ) → Good (sizes-of z) (now (s .entry)) (length p) → Carried (sizes-of z) (pressing down) (now (s .entry)) p (now (s .exit)) p r) ⌝ }
+{
+    if down { press_down(s) } else { press_up(s) }
 }
 
 // Who is told where the pointer is: the window that holds it, or else the one in front there.
