@@ -2,3 +2,4 @@ pub mod Sizes
 pub mod Refusals
 pub mod Ranges
 pub mod State
+pub mod Budget

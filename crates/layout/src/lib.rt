@@ -1,3 +1,5 @@
-// Sizes of a desk, what is refused and by which numbers, and the state of a desk.
+// Sizes of a desk, what lent memory they want, what is refused and by which numbers, and the state of a desk.
 pub mod sizes;
+pub mod budget;
 pub mod state;
+pub mod fresh;
