@@ -3,3 +3,5 @@ pub mod Refusals
 pub mod Ranges
 pub mod State
 pub mod Budget
+pub mod Head
+pub mod Stored

@@ -3,3 +3,5 @@ pub mod sizes;
 pub mod budget;
 pub mod state;
 pub mod fresh;
+mod bytes;
+mod entry;
