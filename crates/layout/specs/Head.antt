@@ -146,8 +146,12 @@ stack-sound work =
 abbrev pub hands-sound : List ℕ → Bool
 hands-sound work = handed (table-in work) (low (word work 7)) && handed (table-in work) (high (word work 7))
 
+-- a clipboard that fits, and a program's number that fits a byte
+abbrev pub clipped : ℕ → Bool
+clipped w = leb (low w) 4096 && leb (high w) 256
+
 abbrev pub clip-sound : List ℕ → Bool
-clip-sound work = leb (low (word work 8)) 4096 && leb (high (word work 8)) (word work 3)
+clip-sound work = clipped (word work 8)
 
 -- the sizes are in their ranges, and pictures of so many dots and the work itself have room for what they want
 abbrev pub room-sound : List ℕ → ℕ → Bool

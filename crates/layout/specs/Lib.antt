@@ -5,3 +5,4 @@ pub mod State
 pub mod Budget
 pub mod Head
 pub mod Stored
+pub mod Loads

@@ -1,6 +1,6 @@
 // The three words of a window in the lent work.
 ghost use mathlib.Core.Path.{_≡_};
-ghost use mathlib.Core.Bool.{true};
+ghost use mathlib.Core.Bool.{true, _&&_};
 ghost use mathlib.Core.Logic.{_⊎_};
 ghost use Prim.Native.Nat.{ℕ, _+_, _*_, _<_, _≤_};
 ghost use lib.IntN.{pos, _-ℤ_};
@@ -102,4 +102,25 @@ pub(crate) fn load_entry(work: &[u32], at: usize, n: usize) -> Option<Window>
     ensures { λ r. ⌜ r ≡ entry-at (now (work .entry)) at n ⌝ }
 {
     unpack(work[at + 3 * n], work[at + 3 * n + 1], work[at + 3 * n + 2])
+}
+
+// Whether the entry of the window n is as it has to be.
+pub(crate) fn entry_good(work: &[u32], at: usize, n: usize, z: Sizes) -> bool
+    requires { ⌜ at + 3 * n + 3 ≤ length (now work) ⌝ ∗ ⌜ at ≤ 2048 ⌝ ∗ ⌜ n ≤ 255 ⌝ }
+    ensures { λ r. ⌜ r ≡ (flagged-of (getD (now (work .entry)) (at + 3 * n) 0) && shaped-of (sizes-of z) (entry-at (now (work .entry)) at n)) ⌝ }
+{
+    flagged(work[at + 3 * n]) && shaped(z, load_entry(work, at, n))
+}
+
+// The window n of the table is this one from now on; all other words stay as they are.
+pub(crate) fn store_entry(work: &mut [u32], at: usize, n: usize, slot: Option<Window>)
+    requires { ⌜ at + 3 * n + 3 ≤ length (now work) ⌝ ∗ ⌜ at ≤ 2048 ⌝ ∗ ⌜ n ≤ 255 ⌝ }
+    ensures window { λ _. ⌜ entry-at (now (work .exit)) at n ≡ bare slot ⌝ }
+    ensures flags { λ _. ⌜ flagged-of (getD (now (work .exit)) (at + 3 * n) 0) ≡ true ⌝ }
+    ensures rest { λ _. ⌜ ((k : ℕ) → (k < at + 3 * n) ⊎ (at + 3 * n + 3 ≤ k) → getD (now (work .exit)) k 0 ≡ getD (now (work .entry)) k 0) ⌝ }
+{
+    let (a, b, c) = pack(slot);
+    work[at + 3 * n] = a;
+    work[at + 3 * n + 1] = b;
+    work[at + 3 * n + 2] = c;
 }

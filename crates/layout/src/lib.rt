@@ -5,3 +5,8 @@ pub mod state;
 pub mod fresh;
 mod bytes;
 mod entry;
+mod table;
+mod order;
+mod clip;
+mod head;
+pub mod load;
