@@ -34,6 +34,7 @@ pub record Fronted (z : Sizes) (s : State) (f : List ℕ) : Type 0 where
   pub held : high (getD f 7 0) ≡ numbered (s .held)
   pub len : low (getD f 8 0) ≡ s .clip .len
   pub owner : high (getD f 8 0) ≡ numbered (s .clip .owner)
+  pub owner-small : high (getD f 8 0) ≤ 256
   pub count : getD f 9 0 ≡ s .stack .count
 
 -- after a store the work holds the sizes and the state: the desk, where it has as many places for windows as the sizes say and the pictures are packed, and

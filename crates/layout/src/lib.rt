@@ -10,3 +10,4 @@ mod order;
 mod clip;
 mod head;
 pub mod load;
+pub mod store;
