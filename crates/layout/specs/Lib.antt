@@ -6,3 +6,4 @@ pub mod Budget
 pub mod Head
 pub mod Stored
 pub mod Loads
+pub mod Laws

@@ -11,3 +11,4 @@ mod clip;
 mod head;
 pub mod load;
 pub mod store;
+pub mod laws;

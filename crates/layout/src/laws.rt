@@ -1,0 +1,23 @@
+// Laws of the head of a lent work; what they say is in specs/Laws.antt.
+ghost use Rattle.layout.specs.Laws.{Sound-works, Spare, Reloads};
+
+// A work that passes the tests holds a sound desk.
+pub fn soundness_stands() -> u8
+    ensures { λ _. ⌜ Sound-works ⌝ }
+{
+    0
+}
+
+// What is spare in a work does not matter.
+pub fn spare_stands() -> u8
+    ensures { λ _. ⌜ Spare ⌝ }
+{
+    0
+}
+
+// What is loaded is what was stored.
+pub fn reload_stands() -> u8
+    ensures { λ _. ⌜ Reloads ⌝ }
+{
+    0
+}
