@@ -44,8 +44,8 @@ first-none (Some r) b e = absurd (both-ways true (ap isSome e) refl)
 short-none : (slice needs has : ℕ) → short slice needs has ≡ None → needs ≤ has
 short-none slice needs has e =
     elim (cases-bool (leb needs has)) [
-      inl t ↦ leb-true needs has t
-    | inr f ↦ absurd (both-ways true (sym (ap (λ b. isSome {T = ℕ × ℕ} (pick b None (Some (2, slice)))) f) ∙ ap isSome e) refl)
+      | inl t ↦ leb-true needs has t
+      | inr f ↦ absurd (both-ways true (sym (ap (λ b. isSome {T = ℕ × ℕ} (pick b None (Some (2, slice)))) f) ∙ ap isSome e) refl)
     ]
 
 pub record Starts (z : desk.Sizes) (pictures work : ℕ) : Type 0 where
@@ -72,8 +72,8 @@ none-is (Some r) e = absurd (both-ways true e refl)
 pub too-short : (work : List ℕ) (size : ℕ) → length work < 2048 → room-sound work size ≡ false
 too-short work size h =
     elim (cases-bool (isSome (start-refusal (sizes-in work) size (length work)))) [
-      inl t ↦ ap (λ b. pick b false true) t
-    | inr f ↦ let s = starts (sizes-in work) size (length work) (none-is _ f) in absurd (omega (arith, s .room))
+      | inl t ↦ ap (λ b. pick b false true) t
+      | inr f ↦ let s = starts (sizes-in work) size (length work) (none-is _ f) in absurd (omega (arith, s .room))
     ]
 
 pub room-not : (work : List ℕ) (size : ℕ) (r : ℕ × ℕ) → start-refusal (sizes-in work) size (length work) ≡ Some r → room-sound work size ≡ false
@@ -85,8 +85,8 @@ room-is work size e = ap (λ o. pick (isSome o) false true) e
 pub room-none : (work : List ℕ) (size : ℕ) → room-sound work size ≡ true → start-refusal (sizes-in work) size (length work) ≡ None
 room-none work size e =
     elim (cases-bool (isSome (start-refusal (sizes-in work) size (length work)))) [
-      inl t ↦ absurd (both-ways true (sym e ∙ ap (λ b. pick b false true) t) refl)
-    | inr f ↦ none-is _ f
+      | inl t ↦ absurd (both-ways true (sym e ∙ ap (λ b. pick b false true) t) refl)
+      | inr f ↦ none-is _ f
     ]
 
 -- the windows of a work, part by part
@@ -124,4 +124,7 @@ module _ (work : List ℕ) (s : Stack) (es : slots-of s ≡ table-in work) (eo :
       let m : a ≡ area (map (view []) (table-in work)) = q [] ∙ ap (λ os. area (map (view []) os)) es in
       record {
         sound = and-from _ _ (and-from _ _ (le-leb (word work 9) 255 c) e) (and-from _ _ (sym (λ i. orderly (es i) (eo i)) ∙ o) (le-leb (area (map (view []) (table-in work))) (word work 5) (omega arith)));
-        slots = es; order = eo; limit = l }
+        slots = es;
+        order = eo;
+        limit = l;
+      }

@@ -37,8 +37,8 @@ use Rattle.layout.proofs.Checked.{starts, room-none, room-is}
 pub view-at : (p : List ℕ) (os : List (Option Window)) (n : ℕ) → getD (map (view p) os) n nothing ≡ view p (getD os n None)
 view-at p os n =
     elim (cases-lt n (length os)) [
-      inl h ↦ getD-map (view p) os n None nothing h
-    | inr h ↦ getD-past (map (view p) os) n nothing (simp length-map h) ∙ sym (ap (view p) (getD-past os n None h))
+      | inl h ↦ getD-map (view p) os n None nothing h
+      | inr h ↦ getD-past (map (view p) os) n nothing (simp length-map h) ∙ sym (ap (view p) (getD-past os n None h))
     ]
 
 pub view-there : (p : List ℕ) (o : Option Window) → view p o .there ≡ isSome o
@@ -62,8 +62,8 @@ once-by os o e n =
     let f : ℕ → Bool = λ k. eqb (times k o) (bit (isSome (getD os k None))) in
     let q = and-parts (each f (length os)) (all-of (λ m. ltb m (length os)) o) e in
     elim (cases-lt n (length os)) [
-      inl h ↦ eqb-true (times n o) (bit (isSome (getD os n None))) (each-at f (length os) (q .0) n h)
-    | inr h ↦ times-none (length os) n o (q .1) h ∙ sym (ap (λ s. bit (isSome s)) (getD-past os n None h))
+      | inl h ↦ eqb-true (times n o) (bit (isSome (getD os n None))) (each-at f (length os) (q .0) n h)
+      | inr h ↦ times-none (length os) n o (q .1) h ∙ sym (ap (λ s. bit (isSome s)) (getD-past os n None h))
     ]
 
 -- where pictures begin does not matter to a window's shape
@@ -84,15 +84,19 @@ shaped-view z p (Some w) e t =
     let c = and-parts (leb 1 (w .wide)) (leb (w .wide) (z .side)) (b .0) in
     let d = and-parts (leb 1 (w .high)) (leb (w .high) (z .side)) (b .1) in
     record {
-      owner = ltb-true (w .owner) (z .programs) (a .0); wide-least = leb-true 1 (w .wide) (c .0); wide-most = leb-true (w .wide) (z .side) (c .1);
-      high-least = leb-true 1 (w .high) (d .0); high-most = leb-true (w .high) (z .side) (d .1) }
+      owner = ltb-true (w .owner) (z .programs) (a .0);
+      wide-least = leb-true 1 (w .wide) (c .0);
+      wide-most = leb-true (w .wide) (z .side) (c .1);
+      high-least = leb-true 1 (w .high) (d .0);
+      high-most = leb-true (w .high) (z .side) (d .1);
+    }
 
 pub held-by : (p : List ℕ) (os : List (Option Window)) (k n : ℕ) → handed os k ≡ true → k ≡ suc n → getD (map (view p) os) n nothing .there ≡ true
 held-by p os k n e q =
     ap (λ (w : desk.Window). w .there) (view-at p os n) ∙ view-there p (getD os n None) ∙
     elim (or-cases (eqb k 0) (isSome (getD os (k - 1) None)) e) [
-      inl z ↦ let h = eqb-true k 0 z in absurd (omega arith)
-    | inr z ↦ let m : k - 1 ≡ n = omega arith in sym (ap (λ i. isSome (getD os i None)) m) ∙ z
+      | inl z ↦ let h = eqb-true k 0 z in absurd (omega arith)
+      | inr z ↦ let m : k - 1 ≡ n = omega arith in sym (ap (λ i. isSome (getD os i None)) m) ∙ z
     ]
 
 pub area-any : (p q : List ℕ) (os : List (Option Window)) → area (map (view p) os) ≡ area (map (view q) os)
@@ -119,8 +123,15 @@ parts work size e =
     let g = and-parts (orderly (table-in work) (order-in work)) (leb (area (map (view []) (table-in work))) (word work 5)) (d .1) in
     let h = and-parts (handed (table-in work) (low (word work 7))) (handed (table-in work) (high (word work 7))) (c .1) in
     record {
-      room = a .0; count = leb-true (word work 9) 255 (f .0); entries = f .1; order = g .0; few = leb-true (area (map (view []) (table-in work))) (word work 5) (g .1);
-      clip = c .0; keys = h .0; held = h .1 }
+      room = a .0;
+      count = leb-true (word work 9) 255 (f .0);
+      entries = f .1;
+      order = g .0;
+      few = leb-true (area (map (view []) (table-in work))) (word work 5) (g .1);
+      clip = c .0;
+      keys = h .0;
+      held = h .1;
+    }
 
 -- THE LAW: what passes the tests is sound
 pub sound-holds : (work : List ℕ) (size : ℕ) → sound-in work size ≡ true → (p : List ℕ) → Sound (sizes-in work) (desk-in work p)
@@ -136,13 +147,14 @@ sound-holds work size e p =
       held-there = λ n q. held-by p os (high (word work 7)) n (k .held) q;
       once = λ n. once-by os (order-in work) (k .order) n ∙ ap bit (sym (ap (λ (w : desk.Window). w .there) (view-at p os n) ∙ view-there p (getD os n None)));
       shaped = λ n. subst (λ (w : desk.Window). Shaped-if (sizes-in work) w) (sym (view-at p os n)) (shaped-view (sizes-in work) p (getD os n None)
-        (shaped-packed (sizes-in work) 0 es n ∙
+          (shaped-packed (sizes-in work) 0 es n ∙
           elim (cases-lt n (word work 2)) [
-            inl h ↦ ap (shaped (sizes-in work)) (getD-map-counting (entry-at work table-at) 0 (word work 2) n n None h (omega arith)) ∙
-              and-parts (flagged (word work (table-at + 3 * n))) (shaped (sizes-in work) (entry-at work table-at n)) (each-at f (word work 2) (k .entries) n h) .1
-          | inr h ↦ ap (shaped (sizes-in work)) (getD-past es n None (rw (length-map-counting (entry-at work table-at) 0 (word work 2)) h))
+            | inl h ↦ ap (shaped (sizes-in work)) (getD-map-counting (entry-at work table-at) 0 (word work 2) n n None h (omega arith)) ∙
+                and-parts (flagged (word work (table-at + 3 * n))) (shaped (sizes-in work) (entry-at work table-at n)) (each-at f (word work 2) (k .entries) n h) .1
+            | inr h ↦ ap (shaped (sizes-in work)) (getD-past es n None (rw (length-map-counting (entry-at work table-at) 0 (word work 2)) h))
           ]));
-      few = omega (arith, area-any p [] os, k .few) }
+      few = omega (arith, area-any p [] os, k .few);
+    }
 
 -- the tests fail where a part does
 pub no-room : (work : List ℕ) (size : ℕ) → room-sound work size ≡ false → sound-in work size ≡ false
@@ -166,15 +178,30 @@ pub loaded : (work : List ℕ) (size : ℕ) (z : Sizes) (s : State) → Sized-as
     Hands (table-in work) (word work 7) (s .keys) (s .held) → s .x ≡ place (low (word work 6)) → s .y ≡ place (high (word work 6)) → Loaded-as work size z s
 unfolding sizes-in desk-in sound-in
 loaded work size z s a b c d x y =
-    record { sound = ok; sizes = a .sizes; desk = same; good = record {
-      sizes = subst Fits-sizes (sym (a .sizes)) (starts (sizes-in work) size (length work) (a .room) .fits);
-      limit = b .limit ∙ sym (ap (λ (v : desk.Sizes). v .windows) (a .sizes));
-      packed = subst (Packed 0) (sym (b .slots)) (packed-is 0 (map (entry-at work table-at) (counting 0 (word work 2))));
-      room = subst (λ (v : desk.Sizes). v .dots ≤ size) (sym (a .sizes)) (starts (sizes-in work) size (length work) (a .room) .dots);
-      sound = λ p. subst (λ (v : desk.Sizes). Sound v (desk-of s p)) (sym (a .sizes)) (subst (Sound (sizes-in work)) (sym (same p)) (sound-holds work size ok p)) } }
+    record {
+      sound = ok;
+      sizes = a .sizes;
+      desk = same;
+      good = record {
+        sizes = subst Fits-sizes (sym (a .sizes)) (starts (sizes-in work) size (length work) (a .room) .fits);
+        limit = b .limit ∙ sym (ap (λ (v : desk.Sizes). v .windows) (a .sizes));
+        packed = subst (Packed 0) (sym (b .slots)) (packed-is 0 (map (entry-at work table-at) (counting 0 (word work 2))));
+        room = subst (λ (v : desk.Sizes). v .dots ≤ size) (sym (a .sizes)) (starts (sizes-in work) size (length work) (a .room) .dots);
+        sound = λ p. subst (λ (v : desk.Sizes). Sound v (desk-of s p)) (sym (a .sizes)) (subst (Sound (sizes-in work)) (sym (same p)) (sound-holds work size ok p));
+      };
+    }
   where
     ok : sound-in work size ≡ true
     ok = and-from (room-sound work size) _ (room-is work size (a .room)) (and-from (stack-sound work) _ (b .sound) (and-from (clip-sound work) (hands-sound work) (c .sound) (d .sound)))
+
     same : (p : List ℕ) → desk-of s p ≡ desk-in work p
     same p = λ i. record {
-      windows = map (view p) (b .slots i); order = b .order i; px = x i; py = y i; keys = d .keys-is i; held = d .held-is i; clip-of = c .owner-is i; clip = c .bytes-are i }
+      windows = map (view p) (b .slots i);
+      order = b .order i;
+      px = x i;
+      py = y i;
+      keys = d .keys-is i;
+      held = d .held-is i;
+      clip-of = c .owner-is i;
+      clip = c .bytes-are i;
+    }

@@ -43,7 +43,8 @@ tally-start limit seen h e =
     record {
       below = refl;
       count = λ n l. ap (λ us. getD us n 0) e ∙ getD-replicate {A = ℕ} 255 n 0 0 (omega arith);
-      long = ap length e ∙ length-replicate {A = ℕ} 255 0 }
+      long = ap length e ∙ length-replicate {A = ℕ} 255 0;
+    }
 
 pub tally-more : (limit i n : ℕ) (o seen : List ℕ) → Tally limit (take i o) seen → i < length o → n ≡ getD o i 0 → n < limit → limit ≤ 255 →
     Tally limit (take (i + 1) o) (set seen n (getD seen n 0 + 1))
@@ -51,10 +52,11 @@ tally-more limit i n o seen t h e l m =
     rw (take-more o i 0 h, ← e) (record {
       below = all-push (λ k. ltb k limit) (take i o) n (t .below) (lt-ltb n limit l);
       count = λ k q. elim (cases-eq k n) [
-          inl z ↦ rw z (getD-set-same seen n (getD seen n 0 + 1) 0 (omega (arith, t .long)) ∙ omega (arith, t .count n l, times-append n (take i o) (n ∷ []), times-single-same n))
+        | inl z ↦ rw z (getD-set-same seen n (getD seen n 0 + 1) 0 (omega (arith, t .long)) ∙ omega (arith, t .count n l, times-append n (take i o) (n ∷ []), times-single-same n))
         | inr z ↦ getD-set-other seen n k (getD seen n 0 + 1) 0 z ∙ t .count k q ∙ omega (arith, times-append k (take i o) (n ∷ []), times-single-other k n z)
-        ];
-      long = length-set seen n (getD seen n 0 + 1) ∙ t .long })
+      ];
+      long = length-set seen n (getD seen n 0 + 1) ∙ t .long;
+    })
 
 -- what was counted decides whether the order is in order
 pub orderly-by : (os : List (Option Window)) (o seen : List ℕ) (limit : ℕ) → Tally limit o seen → length os ≡ limit →

@@ -31,12 +31,12 @@ pub word-more : (work bytes : List ℕ) (at n v count : ℕ) → at + n < length
     (k : ℕ) → k < 4 * (n + 1) → k < count → byte-in (set work (at + n) v) at k ≡ getD bytes k 0
 word-more work bytes at n v count h below here k l m =
     elim (cases-lt k (4 * n)) [
-      inl q ↦ ap (λ w. byte-of w (k % 4)) (getD-set-other work (at + n) (at + k / 4) v 0 (λ e. omega arith)) ∙ below k q m
-    | inr q ↦
-        let a : k / 4 ≡ n = omega arith in
-        let b : 4 * n + k % 4 ≡ k = omega arith in
-        ap (λ i. byte-of (getD (set work (at + n) v) (at + i) 0) (k % 4)) a ∙ ap (λ w. byte-of w (k % 4)) (getD-set-same work (at + n) v 0 h)
-        ∙ here (k % 4) (omega arith) (omega arith) ∙ ap (λ i. getD bytes i 0) b
+      | inl q ↦ ap (λ w. byte-of w (k % 4)) (getD-set-other work (at + n) (at + k / 4) v 0 (λ e. omega arith)) ∙ below k q m
+      | inr q ↦
+          let a : k / 4 ≡ n = omega arith in
+          let b : 4 * n + k % 4 ≡ k = omega arith in
+          ap (λ i. byte-of (getD (set work (at + n) v) (at + i) 0) (k % 4)) a ∙ ap (λ w. byte-of w (k % 4)) (getD-set-same work (at + n) v 0 h)
+          ∙ here (k % 4) (omega arith) (omega arith) ∙ ap (λ i. getD bytes i 0) b
     ]
 
 -- what lies behind a front that was written
@@ -54,7 +54,7 @@ behind-front front work k h l =
 pub drop-same : (n : ℕ) (xs ys : List ℕ) → length xs ≡ length ys → ((k : ℕ) → n ≤ k → getD xs k 0 ≡ getD ys k 0) → drop n xs ≡ drop n ys
 drop-same n xs ys e h =
     ext-getD 0 (drop n xs) (drop n ys) (length-drop n xs ∙ ap (λ m. m - n) e ∙ sym (length-drop n ys))
-      (λ i l. getD-drop n xs i 0 ∙ h (n + i) (omega arith) ∙ sym (getD-drop n ys i 0))
+    (λ i l. getD-drop n xs i 0 ∙ h (n + i) (omega arith) ∙ sym (getD-drop n ys i 0))
 
 -- two lists made by functions that agree
 pub map-same : {X : Type 0} (f g : ℕ → X) (n : ℕ) (d : X) → ((k : ℕ) → k < n → f k ≡ g k) → map f (counting 0 n) ≡ map g (counting 0 n)

@@ -29,7 +29,7 @@ event-out z r lent used e =
 
 pub event-by : (z : Sizes) (b : Budget) (lent : Lent) (used : Used) → Budget-of z b →
     first (first (short 0 (b .pictures) (lent .pictures)) (short 1 (b .work) (lent .work))) (first (short 2 (used .sent + b .sent) (lent .sent)) (short 3 (used .words + b .words) (lent .words)))
-      ≡ event-refusal z lent used
+    ≡ event-refusal z lent used
 unfolding event-refusal
 event-by z b lent used e =
     ap (λ s. first s (first (short 2 (used .sent + b .sent) (lent .sent)) (short 3 (used .words + b .words) (lent .words)))) (start-by z b (lent .pictures) (lent .work) e)

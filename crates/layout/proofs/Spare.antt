@@ -35,8 +35,8 @@ module _ (v w : List ℕ) (a : Agree v w) where
   entries : (n : ℕ) → n < word v 2 → entry-at v table-at n ≡ entry-at w table-at n
   entries n h =
       elim (a .table n h) [
-        inl q ↦ entry-none (word v (table-at + 3 * n)) _ _ (q .0) ∙ sym (entry-none (word w (table-at + 3 * n)) _ _ (q .1))
-      | inr q ↦ entry-same v w table-at n (q .0) (q .1) (q .2)
+        | inl q ↦ entry-none (word v (table-at + 3 * n)) _ _ (q .0) ∙ sym (entry-none (word w (table-at + 3 * n)) _ _ (q .1))
+        | inr q ↦ entry-same v w table-at n (q .0) (q .1) (q .2)
       ]
 
   flags : (n : ℕ) → n < word v 2 → flagged (word v (table-at + 3 * n)) ≡ flagged (word w (table-at + 3 * n))
@@ -48,7 +48,14 @@ module _ (v w : List ℕ) (a : Agree v w) where
   sizes : sizes-in v ≡ sizes-in w
   unfolding sizes-in
   sizes = λ i. record {
-    wide = at 0 (omega arith) i; high = at 1 (omega arith) i; windows = at 2 (omega arith) i; programs = at 3 (omega arith) i; side = at 4 (omega arith) i; dots = at 5 (omega arith) i; built = built }
+    wide = at 0 (omega arith) i;
+    high = at 1 (omega arith) i;
+    windows = at 2 (omega arith) i;
+    programs = at 3 (omega arith) i;
+    side = at 4 (omega arith) i;
+    dots = at 5 (omega arith) i;
+    built = built;
+  }
 
   table : table-in v ≡ table-in w
   table =
@@ -64,21 +71,28 @@ module _ (v w : List ℕ) (a : Agree v w) where
   desks : (p : List ℕ) → desk-in v p ≡ desk-in w p
   unfolding desk-in
   desks p = λ i. record {
-    windows = map (view p) (table i); order = order i; px = place (low (at 6 (omega arith) i)); py = place (high (at 6 (omega arith) i));
-    keys = low (at 7 (omega arith) i); held = high (at 7 (omega arith) i); clip-of = high (at 8 (omega arith) i); clip = clip i }
+    windows = map (view p) (table i);
+    order = order i;
+    px = place (low (at 6 (omega arith) i));
+    py = place (high (at 6 (omega arith) i));
+    keys = low (at 7 (omega arith) i);
+    held = high (at 7 (omega arith) i);
+    clip-of = high (at 8 (omega arith) i);
+    clip = clip i;
+  }
 
   entries-same : entries-sound v ≡ entries-sound w
   entries-same =
       each-same (λ n. flagged (word v (table-at + 3 * n)) && shaped (sizes-in v) (entry-at v table-at n)) (λ n. flagged (word w (table-at + 3 * n)) && shaped (sizes-in w) (entry-at w table-at n)) (word v 2)
-        (λ n h. λ i. flags n h i && shaped (sizes i) (entries n h i))
+      (λ n h. λ i. flags n h i && shaped (sizes i) (entries n h i))
       ∙ ap (each (λ n. flagged (word w (table-at + 3 * n)) && shaped (sizes-in w) (entry-at w table-at n))) (at 2 (omega arith))
 
   sound : (size : ℕ) → length v ≡ length w → sound-in v size ≡ sound-in w size
   unfolding sound-in
   sound size l = λ i.
       pick (isSome (start-refusal (sizes i) size (l i))) false true &&
-        (((leb (at 9 (omega arith) i) 255 && entries-same i) && (orderly (table i) (order i) && leb (area (map (view []) (table i))) (at 5 (omega arith) i))) &&
-          (clipped (at 8 (omega arith) i) && (handed (table i) (low (at 7 (omega arith) i)) && handed (table i) (high (at 7 (omega arith) i)))))
+      (((leb (at 9 (omega arith) i) 255 && entries-same i) && (orderly (table i) (order i) && leb (area (map (view []) (table i))) (at 5 (omega arith) i))) &&
+      (clipped (at 8 (omega arith) i) && (handed (table i) (low (at 7 (omega arith) i)) && handed (table i) (high (at 7 (omega arith) i)))))
 
 pub spare : Spare
 unfolding Spare

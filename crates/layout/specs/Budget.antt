@@ -61,4 +61,4 @@ start-refusal z pictures work = first (size-refusal z) (first (short 0 (z .dots)
 unfoldable pub event-refusal : Sizes → Lent → Used → Option (ℕ × ℕ)
 event-refusal z lent used =
     first (start-refusal z (lent .pictures) (lent .work))
-      (first (short 2 (used .sent + sent-room z) (lent .sent)) (short 3 (used .words + words-room) (lent .words)))
+    (first (short 2 (used .sent + sent-room z) (lent .sent)) (short 3 (used .words + words-room) (lent .words)))

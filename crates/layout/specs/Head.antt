@@ -78,7 +78,7 @@ bytes-in work at n = map (byte-in work at) (counting 0 n)
 abbrev pub entry : ℕ → ℕ → ℕ → Option Window
 entry a b c =
     pick (eqb (high a) 0) None
-      (Some (record { owner = a % 256; shown = eqb (a / 256 % 256) 1; x = place (low b); y = place (high b); wide = low c; high = high c; at = 0 }))
+    (Some (record { owner = a % 256; shown = eqb (a / 256 % 256) 1; x = place (low b); y = place (high b); wide = low c; high = high c; at = 0 }))
 
 -- the flags of an entry: one that is there has a 0 or a 1 for each
 abbrev pub flagged : ℕ → Bool
@@ -133,7 +133,8 @@ desk-in work p =
       keys = low (word work 7);
       held = high (word work 7);
       clip-of = high (word work 8);
-      clip = bytes-in work clip-at (low (word work 8)) }
+      clip = bytes-in work clip-at (low (word work 8));
+    }
 
 -- the entries, as words and as windows
 abbrev pub entries-sound : List ℕ → Bool

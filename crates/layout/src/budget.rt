@@ -56,7 +56,11 @@ fn times_small(a: usize, b: usize) -> usize
 fn short(slice: u8, needs: usize, has: usize) -> Option<Refusal>
     ensures { λ r. ⌜ numbered r ≡ short-of slice needs has ⌝ }
 {
-    if needs <= has { None } else { Some(Refusal::Short { slice }) }
+    if needs <= has {
+        None
+    } else {
+        Some(Refusal::Short { slice })
+    }
 }
 
 // The first of two refusals, where there is one.
@@ -73,7 +77,11 @@ fn first(a: Option<Refusal>, b: Option<Refusal>) -> Option<Refusal>
 fn short_by(slice: u8, used: usize, more: usize, has: usize) -> Option<Refusal>
     ensures { λ r. ⌜ numbered r ≡ short-of slice (used + more) has ⌝ }
 {
-    if used <= has { short(slice, more, has - used) } else { Some(Refusal::Short { slice }) }
+    if used <= has {
+        short(slice, more, has - used)
+    } else {
+        Some(Refusal::Short { slice })
+    }
 }
 
 impl Sizes {
@@ -99,7 +107,10 @@ impl Sizes {
     {
         match self.budget() {
             Err(no) => Some(no),
-            Ok(budget) => first(short(0, budget.pictures, pictures), short(1, budget.work, work)),
+            Ok(budget) => first(
+                short(0, budget.pictures, pictures),
+                short(1, budget.work, work),
+            ),
         }
     }
 
@@ -110,8 +121,14 @@ impl Sizes {
         match self.budget() {
             Err(no) => Some(no),
             Ok(budget) => first(
-                first(short(0, budget.pictures, lent.pictures), short(1, budget.work, lent.work)),
-                first(short_by(2, used.sent, budget.sent, lent.sent), short_by(3, used.words, budget.words, lent.words)),
+                first(
+                    short(0, budget.pictures, lent.pictures),
+                    short(1, budget.work, lent.work),
+                ),
+                first(
+                    short_by(2, used.sent, budget.sent, lent.sent),
+                    short_by(3, used.words, budget.words, lent.words),
+                ),
             ),
         }
     }

@@ -23,5 +23,9 @@ pub(crate) fn load_clip(work: &[u32], at: usize, w: u32) -> Option<Clipboard>
     }
     let mut bytes = [0; 4096];
     bytes::load_bytes(work, at, len, &mut bytes);
-    Some(Clipboard { owner: order::number(owner), len, bytes })
+    Some(Clipboard {
+        owner: order::number(owner),
+        len,
+        bytes,
+    })
 }

@@ -71,7 +71,11 @@ fn pack(slot: Option<Window>) -> (u32, u32, u32)
         None => (0, 0, 0),
         Some(w) => {
             let shown = if w.shown { 256 } else { 0 };
-            (65536 + shown + w.owner as u32, place_word(w.x, w.y), w.wide as u32 + 65536 * w.high as u32)
+            (
+                65536 + shown + w.owner as u32,
+                place_word(w.x, w.y),
+                w.wide as u32 + 65536 * w.high as u32,
+            )
         }
     }
 }
@@ -91,7 +95,8 @@ fn shaped(z: Sizes, slot: Option<Window>) -> bool
         None => true,
         Some(w) => {
             (w.owner as u32) < z.programs
-                && ((1 <= w.wide && w.wide as u32 <= z.side) && (1 <= w.high && w.high as u32 <= z.side))
+                && ((1 <= w.wide && w.wide as u32 <= z.side)
+                    && (1 <= w.high && w.high as u32 <= z.side))
         }
     }
 }

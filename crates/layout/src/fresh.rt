@@ -19,7 +19,18 @@ impl State {
         ensures packed { λ r. ⌜ Packed 0 (slots-of (r .stack)) ⌝ }
         ensures limit { λ r. ⌜ r .stack .limit ≡ windows ⌝ }
     {
-        let clip = Clipboard { owner: None, len: 0, bytes: [0; 4096] };
-        State { stack: Stack::new(windows), x: 0, y: 0, keys: None, held: None, clip }
+        let clip = Clipboard {
+            owner: None,
+            len: 0,
+            bytes: [0; 4096],
+        };
+        State {
+            stack: Stack::new(windows),
+            x: 0,
+            y: 0,
+            keys: None,
+            held: None,
+            clip,
+        }
     }
 }

@@ -1,14 +1,14 @@
 // Sizes of a desk, what lent memory they want, what is refused and by which numbers, and the state of a desk.
-pub mod sizes;
 pub mod budget;
-pub mod state;
-pub mod fresh;
 mod bytes;
-mod entry;
-mod table;
-mod order;
 mod clip;
+mod entry;
+pub mod fresh;
 mod head;
-pub mod load;
-pub mod store;
 pub mod laws;
+pub mod load;
+mod order;
+pub mod sizes;
+pub mod state;
+pub mod store;
+mod table;

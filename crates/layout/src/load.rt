@@ -21,7 +21,14 @@ fn load_sizes(work: &[u32], pictures: usize) -> Option<Sizes>
     if work.len() < head::END {
         return None;
     }
-    let z = Sizes { wide: work[0], high: work[1], windows: work[2], programs: work[3], side: work[4], dots: work[5] };
+    let z = Sizes {
+        wide: work[0],
+        high: work[1],
+        windows: work[2],
+        programs: work[3],
+        side: work[4],
+        dots: work[5],
+    };
     match z.start_refusal(pictures, work.len()) {
         None => Some(z),
         Some(_) => None,
@@ -66,9 +73,19 @@ pub fn load(work: &[u32], pictures: usize) -> Option<(Sizes, State)>
     let Some(clip) = clip::load_clip(work, head::CLIP_BYTES, work[head::CLIP]) else {
         return None;
     };
-    let Some((keys, held)) = order::load_hands(work[head::KEYS], &stack) else {
+    let Some((keys, held)) = order::load_hands(work[head::HANDS], &stack) else {
         return None;
     };
     let (x, y) = entry::load_place(work[head::POINTER]);
-    Some((z, State { stack, x, y, keys, held, clip }))
+    Some((
+        z,
+        State {
+            stack,
+            x,
+            y,
+            keys,
+            held,
+            clip,
+        },
+    ))
 }

@@ -99,5 +99,9 @@ pub(crate) fn load_hands(w: u32, s: &Stack) -> Option<(Option<u8>, Option<u8>)>
 {
     let keys = w % 65536;
     let held = w / 65536;
-    if hand_good(s, keys) && hand_good(s, held) { Some((number(keys), number(held))) } else { None }
+    if hand_good(s, keys) && hand_good(s, held) {
+        Some((number(keys), number(held)))
+    } else {
+        None
+    }
 }

@@ -41,7 +41,18 @@ fn front_words(z: Sizes, s: &State) -> [u32; 10]
     let hands = halves(plus_one(s.keys), plus_one(s.held));
     let clip = halves(s.clip.len as u32, plus_one(s.clip.owner));
     let count = s.stack.count as u32;
-    [z.wide, z.high, z.windows, z.programs, z.side, z.dots, pointer, hands, clip, count]
+    [
+        z.wide,
+        z.high,
+        z.windows,
+        z.programs,
+        z.side,
+        z.dots,
+        pointer,
+        hands,
+        clip,
+        count,
+    ]
 }
 
 // Writes the first words; all behind them stay as they are.

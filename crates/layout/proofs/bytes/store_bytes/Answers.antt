@@ -17,17 +17,19 @@ loop-n-again c =
     let bytes = c .args .bytes .now in
     let count = c .args .count in
     let v = c .word-of .result in
-    let e = c .word-of .ensures in
-    ( word-more (c .loop-n .work) bytes at n v count (omega arith) (c .loop-n .inv .0)
-        (four (λ j. 4 * n + j < count → byte-of v j ≡ getD bytes (4 * n + j) 0)
+    let e = c .word-of .ensures in (
+      word-more (c .loop-n .work) bytes at n v count (omega arith) (c .loop-n .inv .0)
+          (four (λ j. 4 * n + j < count → byte-of v j ≡ getD bytes (4 * n + j) 0)
           (λ h. rw add-zero (e .first ∙ c .byte-or-zero-a .ensures .value (omega arith)))
           (λ h. e .second ∙ c .byte-or-zero-b .ensures .value h)
           (λ h. e .third ∙ c .byte-or-zero-c .ensures .value h)
-          (λ h. e .fourth ∙ c .byte-or-zero-d .ensures .value h))
-    , λ k o. getD-set-other (c .loop-n .work) (at + n) k v 0 (λ q. elim o [ inl h ↦ omega arith | inr h ↦ omega arith ]) ∙ c .loop-n .inv .1 k o )
+          (λ h. e .fourth ∙ c .byte-or-zero-d .ensures .value h)),
+      λ k o. getD-set-other (c .loop-n .work) (at + n) k v 0 (λ q. elim o [ inl h ↦ omega arith | inr h ↦ omega arith ]) ∙ c .loop-n .inv .1 k o,
+    )
 
 pub returns : need.returns
 returns c =
     record {
       bytes = sym (known-front (byte-in (c .loop-n .work) (c .args .at)) (c .args .bytes .now) (c .args .count) 0 (omega arith) (λ k h. sym (c .loop-n .inv .0 k (omega arith) h)));
-      rest = λ k o. c .loop-n .inv .1 k o }
+      rest = λ k o. c .loop-n .inv .1 k o;
+    }

@@ -14,4 +14,5 @@ returns c =
     record {
       window = rw (e, put3-1 xs k (r .0) (r .1) (r .2) (c .pre .0), put3-2 xs k (r .0) (r .1) (r .2) (c .pre .0)) (c .pack-a .ensures .window);
       flags = ap flagged e ∙ c .pack-a .ensures .flags;
-      rest = λ m o. put3-other xs k (r .0) (r .1) (r .2) m o }
+      rest = λ m o. put3-other xs k (r .0) (r .1) (r .2) m o;
+    }

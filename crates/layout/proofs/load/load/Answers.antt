@@ -25,7 +25,7 @@ pub returns-in-rest-load-hands : need.returns-in-rest-load-hands
 returns-in-rest-load-hands c =
     let work = c .args .work .now in
     no-hands work (c .args .pictures)
-      (sym (ap (λ (os : List (Option Window)). handed os (low (word work 7)) && handed os (high (word work 7))) (c .in-Some-load-stack .ensures tt .slots)) ∙ c .in-rest-load-hands .ensures tt)
+    (sym (ap (λ (os : List (Option Window)). handed os (low (word work 7)) && handed os (high (word work 7))) (c .in-Some-load-stack .ensures tt .slots)) ∙ c .in-rest-load-hands .ensures tt)
 
 pub returns : need.returns
 returns c =
@@ -36,8 +36,14 @@ returns c =
     let fx : SFits w16 (c .load-place-x .result .0) = search needs in
     let fy : SFits w16 (c .load-place-x .result .1) = search needs in
     loaded work (c .args .pictures) (c .in-Some .z)
-      (record {
-        stack = c .in-Some-load-stack .stack; x = toZ w16 (ofZ w16 x); y = toZ w16 (ofZ w16 y); keys = h .keys; held = h .held; clip = c .in-Some-load-clip .clip })
-      (c .in-Some .ensures tt) (c .in-Some-load-stack .ensures tt) (c .in-Some-load-clip .ensures tt)
-      (subst (λ (os : List (Option Window)). Hands os (word work 7) (h .keys) (h .held)) (c .in-Some-load-stack .ensures tt .slots) (h .ensures tt))
-      (toZ-ofZ w16 x fx ∙ c .load-place-x .ensures .across) (toZ-ofZ w16 y fy ∙ c .load-place-x .ensures .down)
+    (record {
+      stack = c .in-Some-load-stack .stack;
+      x = toZ w16 (ofZ w16 x);
+      y = toZ w16 (ofZ w16 y);
+      keys = h .keys;
+      held = h .held;
+      clip = c .in-Some-load-clip .clip;
+    })
+    (c .in-Some .ensures tt) (c .in-Some-load-stack .ensures tt) (c .in-Some-load-clip .ensures tt)
+    (subst (λ (os : List (Option Window)). Hands os (word work 7) (h .keys) (h .held)) (c .in-Some-load-stack .ensures tt .slots) (h .ensures tt))
+    (toZ-ofZ w16 x fx ∙ c .load-place-x .ensures .across) (toZ-ofZ w16 y fy ∙ c .load-place-x .ensures .down)

@@ -18,7 +18,7 @@ returns-then-not-order-good c =
     let work = c .args .work .now in
     let s = c .load-order .last .s in
     let e : slots-of s ≡ table-in work =
-        c .load-order .ensures .slots ∙ c .load-table-s .ensures .slots ∙ ap (λ n. packed 0 (map (entry-at work table-at) (counting 0 n))) (windows-by work (c .args .z) (c .pre .sizes)) in
+    c .load-order .ensures .slots ∙ c .load-table-s .ensures .slots ∙ ap (λ n. packed 0 (map (entry-at work table-at) (counting 0 n))) (windows-by work (c .args .z) (c .pre .sizes)) in
     not-order work s e (c .load-order .ensures .order) (sym (c .order-good .ensures) ∙ c .if-not-order-good .taken)
 
 pub returns-then-area-used-z : need.returns-then-area-used-z
@@ -26,7 +26,7 @@ returns-then-area-used-z c =
     let work = c .args .work .now in
     let s = c .load-order .last .s in
     let e : slots-of s ≡ table-in work =
-        c .load-order .ensures .slots ∙ c .load-table-s .ensures .slots ∙ ap (λ n. packed 0 (map (entry-at work table-at) (counting 0 n))) (windows-by work (c .args .z) (c .pre .sizes)) in
+    c .load-order .ensures .slots ∙ c .load-table-s .ensures .slots ∙ ap (λ n. packed 0 (map (entry-at work table-at) (counting 0 n))) (windows-by work (c .args .z) (c .pre .sizes)) in
     not-area work s e (c .load-order .ensures .order) (c .area-used .result) (c .area-used .ensures .value) (omega (arith, c .if-area-used-z .taken, dots-by work (c .args .z) (c .pre .sizes)))
 
 pub returns : need.returns
@@ -35,7 +35,7 @@ returns c =
     let s = c .load-order .last .s in
     let w = windows-by work (c .args .z) (c .pre .sizes) in
     let e : slots-of s ≡ table-in work =
-        c .load-order .ensures .slots ∙ c .load-table-s .ensures .slots ∙ ap (λ n. packed 0 (map (entry-at work table-at) (counting 0 n))) w in
+    c .load-order .ensures .slots ∙ c .load-table-s .ensures .slots ∙ ap (λ n. packed 0 (map (entry-at work table-at) (counting 0 n))) w in
     stacked work s e (c .load-order .ensures .order) (c .area-used .result) (c .area-used .ensures .value) (omega (arith, c .if-area-used-z .left, dots-by work (c .args .z) (c .pre .sizes)))
-      (omega (arith, c .if-count-gt255 .left)) (sym (entries-by work (c .args .z) (c .pre .sizes)) ∙ sym (c .entries-good .ensures) ∙ c .if-not-entries-good .left)
-      (sym (c .order-good .ensures) ∙ c .if-not-order-good .left) (c .load-order .ensures .limit ∙ c .load-table-s .ensures .limit ∙ w)
+    (omega (arith, c .if-count-gt255 .left)) (sym (entries-by work (c .args .z) (c .pre .sizes)) ∙ sym (c .entries-good .ensures) ∙ c .if-not-entries-good .left)
+    (sym (c .order-good .ensures) ∙ c .if-not-order-good .left) (c .load-order .ensures .limit ∙ c .load-table-s .ensures .limit ∙ w)

@@ -12,4 +12,5 @@ returns-else-k-eq0 c =
     let k = c .args .k in
     record {
       value = hand-is os k (c .slot .result) (c .is-some .result) (λ e. omega arith) (c .slot .ensures) (c .is-some .ensures);
-      small = hand-small os k (c .slot .result) (c .is-some .result) (λ e. omega arith) (c .slot .ensures) (c .is-some .ensures) (omega (arith, length-slots (c .args .s .now), c .args .s .now .low)) }
+      small = hand-small os k (c .slot .result) (c .is-some .result) (λ e. omega arith) (c .slot .ensures) (c .is-some .ensures) (omega (arith, length-slots (c .args .s .now), c .args .s .now .low));
+    }

@@ -11,9 +11,11 @@ loop-i-holds c = (c .pre .none, refl, refl)
 pub loop-i-again : need.loop-i-again
 loop-i-again c =
     let v = c .loop-i .inv in
-    let e = c .append .ensures in
-    ( order-more (byte-in (c .args .work .now) (c .args .at)) (c .loop-i .i) (c .byte-at-n .result) _ _ (c .append .result) (v .0) (omega arith) (e .answer) (c .byte-at-n .ensures) (e .order)
-    , e .slots ∙ v .1, e .limit ∙ v .2 )
+    let e = c .append .ensures in (
+      order-more (byte-in (c .args .work .now) (c .args .at)) (c .loop-i .i) (c .byte-at-n .result) _ _ (c .append .result) (v .0) (omega arith) (e .answer) (c .byte-at-n .ensures) (e .order),
+      e .slots ∙ v .1,
+      e .limit ∙ v .2,
+    )
 
 pub returns : need.returns
 returns c =

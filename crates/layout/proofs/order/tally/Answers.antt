@@ -23,7 +23,7 @@ loop-i-again c =
     let i = c .loop-i .i in
     let q : length (s .order) ≡ 255 = search needs in
     tally-more (s .limit) i (getD (s .order) i 0) (order-of s) (c .loop-i .seen) (c .loop-i .inv)
-      (omega (arith, length-take-le (s .count) (s .order) (omega (arith, s .few)))) (slot-in (s .count) i (s .order) 0 (omega arith)) (c .if-n-s .left) (s .low)
+    (omega (arith, length-take-le (s .count) (s .order) (omega (arith, s .few)))) (slot-in (s .count) i (s .order) 0 (omega arith)) (c .if-n-s .left) (s .low)
 
 pub add-seen : need.add-seen
 add-seen c =

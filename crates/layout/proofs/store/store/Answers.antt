@@ -12,4 +12,4 @@ returns c =
     let o = c .store-bytes-2 .ensures in
     let f = c .store-front .ensures in
     stored (c .args .z) (c .args .s .now) (c .args .work .now) (c .store-table .last .work) (c .store-bytes .last .work) (c .store-bytes-2 .last .work) (c .store-front .last .work)
-      (c .front-words-front .result) (c .front-words-front .ensures) long (t .table) (t .flags) (t .rest) (b .bytes) (b .rest) (o .bytes) (o .rest) (f .here) (f .rest)
+    (c .front-words-front .result) (c .front-words-front .ensures) long (t .table) (t .flags) (t .rest) (b .bytes) (b .rest) (o .bytes) (o .rest) (f .here) (f .rest)

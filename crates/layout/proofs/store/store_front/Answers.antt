@@ -15,4 +15,5 @@ returns c =
     let post = postOf 0 (length f - 0) w in
     record {
       here = λ k h. ap (λ us. getD (us ++ post) k 0) (c .copy-from-slice .ensures .after) ∙ getD-append-left f post 0 k h;
-      rest = λ k h. ap (λ us. getD (us ++ post) k 0) (c .copy-from-slice .ensures .after) ∙ behind-front f w k h (c .pre) }
+      rest = λ k h. ap (λ us. getD (us ++ post) k 0) (c .copy-from-slice .ensures .after) ∙ behind-front f w k h (c .pre);
+    }
