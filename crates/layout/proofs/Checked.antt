@@ -1,40 +1,30 @@
 -- What the tests of a work's head come to.
-use mathlib.Core.Path.{_≡_, refl, sym, ap, subst, _∙_}
-use mathlib.Core.Bool.{Bool, true, false, _&&_, _||_}
-use mathlib.Core.Logic.{_⊎_, inl, inr}
-use mathlib.Core.List.{List, [], _∷_, map}
-use Prim.Native.Nat.{ℕ, zero, suc, _+_, _-_, _*_, _≤_, _<_}
+use mathlib.Core.Path.{_≡_, refl, sym, ap, _∙_}
+use mathlib.Core.Bool.{true, false, _&&_}
+use mathlib.Core.Logic.{inl, inr}
+use mathlib.Core.List.{List, [], map}
+use Prim.Native.Nat.{ℕ, _+_, _-_, _*_, _≤_, _<_}
 use native.Mathlib.Omega.{arith}
-use lib.Dec.{eqb, leb, ltb}
-use lib.ListN.{length, getD, take}
+use lib.Dec.{leb}
+use lib.ListN.{length}
 use Rattle.std.specs.Iters.{counting}
 use Rattle.std.specs.Options.{isSome}
 use Rattle.std.specs.declared.option.Option.{Option}
 use Rattle.std.specs.declared.option.Option.the-variants.{Some, None}
-use Rattle.std.proofs.shelf.Lists.{length-map, getD-map, getD-past}
-use Rattle.std.proofs.shelf.Counted.{length-map-counting, getD-map-counting}
-use Rattle.std.proofs.shelf.Tests.{leb-true, le-leb, lt-leb, ltb-true, eqb-true, cases-lt, cases-bool, both-ways, and-parts, and-from, and-left, and-right, or-cases}
-use Rattle.model.specs.Basics.{pick, bit}
+use Rattle.std.proofs.shelf.Tests.{leb-true, le-leb, lt-leb, cases-bool, both-ways, and-from, and-left, and-right}
+use Rattle.model.specs.Basics.{pick}
 use Rattle.model.specs.Desk as desk
-use Rattle.model.specs.Desk.{Desk, nothing, window, area}
-use Rattle.model.specs.Promise.{times, Fits-sizes}
-use Rattle.model.specs.Sound.{Sound, Held, Shaped, Shaped-if}
-use Rattle.model.proofs.Order.{one-other}
-use Rattle.stack.specs.declared.state.Window.{Window}
+use Rattle.model.specs.Desk.{area}
+use Rattle.model.specs.Promise.{Fits-sizes}
 use Rattle.stack.specs.declared.state.Stack.{Stack}
-use Rattle.stack.specs.View.{view, slots-of, windows-of, order-of, numbered, begun, packed, size-of}
-use Rattle.stack.specs.Packed.{Packed}
-use Rattle.stack.proofs.Packed.{packed-is, ending-area}
+use Rattle.stack.specs.View.{view, slots-of, windows-of, order-of, packed}
 use Rattle.layout.specs.declared.sizes.Sizes.{Sizes}
-use Rattle.layout.specs.declared.state.State.{State}
 use Rattle.layout.specs.Sizes.{sizes-of, size-refusal}
 use Rattle.layout.specs.Ranges.{Ranges}
-use Rattle.layout.specs.State.{desk-of, clip-in, Good}
-use Rattle.layout.specs.Budget.{first, short, start-refusal, work-room, boxes}
-use Rattle.layout.specs.Head.{table-at, word, low, high, entry-at, flagged, shaped, each, all-of, orderly, handed, clipped, sizes-in, table-in, order-in, desk-in, entries-sound, stack-sound, clip-sound, hands-sound, room-sound, sound-in}
-use Rattle.layout.specs.Loads.{Stacked-as, Hands, Clipped, Loaded-as}
+use Rattle.layout.specs.Budget.{first, short, start-refusal, work-room}
+use Rattle.layout.specs.Head.{table-at, word, entry-at, flagged, shaped, each, orderly, sizes-in, table-in, order-in, entries-sound, stack-sound, room-sound}
+use Rattle.layout.specs.Loads.{Stacked-as}
 use Rattle.layout.proofs.Ranges.{ranges}
-use Rattle.layout.proofs.Each.{each-at, all-at}
 
 -- what a start that is not refused has
 first-none : (a b : Option (ℕ × ℕ)) → first a b ≡ None → (a ≡ None) × (b ≡ None)
@@ -102,6 +92,11 @@ dots-by work z e = ap (λ (y : desk.Sizes). y .dots) e
 pub windows-by : (work : List ℕ) (z : Sizes) → sizes-of z ≡ sizes-in work → z .windows ≡ word work 2
 unfolding sizes-in
 windows-by work z e = ap (λ (y : desk.Sizes). y .windows) e
+
+-- the table that a stack was read from
+pub table-by : (work : List ℕ) (z : Sizes) (s : Stack) → sizes-of z ≡ sizes-in work → slots-of s ≡ packed 0 (map (entry-at work table-at) (counting 0 (z .windows))) →
+    slots-of s ≡ table-in work
+table-by work z s e q = q ∙ ap (λ n. packed 0 (map (entry-at work table-at) (counting 0 n))) (windows-by work z e)
 
 pub not-count : (work : List ℕ) → 255 < word work 9 → stack-sound work ≡ false
 not-count work h = and-left _ _ (and-left _ _ (lt-leb (word work 9) 255 h))

@@ -1,12 +1,12 @@
 -- A work that passes the tests holds a sound desk, and a state that is read from it is good.
 use mathlib.Core.Path.{_≡_, refl, sym, ap, subst, _∙_}
-use mathlib.Core.Bool.{Bool, true, false, _&&_, _||_}
-use mathlib.Core.Logic.{_⊎_, inl, inr}
+use mathlib.Core.Bool.{Bool, true, false, _&&_}
+use mathlib.Core.Logic.{inl, inr}
 use mathlib.Core.List.{List, [], _∷_, map}
-use Prim.Native.Nat.{ℕ, zero, suc, _+_, _-_, _*_, _≤_, _<_}
+use Prim.Native.Nat.{ℕ, zero, suc, _+_, _-_, _*_, _≤_}
 use native.Mathlib.Omega.{arith}
 use lib.Dec.{eqb, leb, ltb}
-use lib.ListN.{length, getD, take}
+use lib.ListN.{length, getD}
 use Rattle.std.specs.Iters.{counting}
 use Rattle.std.specs.Options.{isSome}
 use Rattle.std.specs.declared.option.Option.{Option}
@@ -14,24 +14,23 @@ use Rattle.std.specs.declared.option.Option.the-variants.{Some, None}
 use Rattle.std.proofs.shelf.Lists.{length-map, getD-map, getD-past}
 use Rattle.std.proofs.shelf.Counted.{length-map-counting, getD-map-counting}
 use Rattle.std.proofs.shelf.Tests.{leb-true, ltb-true, eqb-true, cases-lt, both-ways, and-parts, and-from, and-left, and-right, or-cases}
-use Rattle.model.specs.Basics.{pick, bit}
+use Rattle.model.specs.Basics.{bit}
 use Rattle.model.specs.Desk as desk
-use Rattle.model.specs.Desk.{Desk, nothing, window, area}
-use Rattle.model.specs.Promise.{times, one, Fits-sizes}
-use Rattle.model.specs.Sound.{Sound, Held, Shaped, Shaped-if}
+use Rattle.model.specs.Desk.{nothing, window, area}
+use Rattle.model.specs.Promise.{times, Fits-sizes}
+use Rattle.model.specs.Sound.{Sound, Shaped-if}
 use Rattle.model.proofs.Order.{one-other}
 use Rattle.stack.specs.declared.state.Window.{Window}
-use Rattle.stack.specs.View.{view, slots-of, windows-of, order-of, numbered, begun, packed, size-of}
+use Rattle.stack.specs.View.{view, begun, packed, size-of}
 use Rattle.stack.specs.Packed.{Packed}
 use Rattle.stack.proofs.Packed.{packed-is, ending-area}
 use Rattle.layout.specs.declared.sizes.Sizes.{Sizes}
 use Rattle.layout.specs.declared.state.State.{State}
-use Rattle.layout.specs.Sizes.{sizes-of}
-use Rattle.layout.specs.State.{desk-of, clip-in, Good}
-use Rattle.layout.specs.Head.{table-at, clip-at, word, low, high, place, entry-at, flagged, shaped, each, all-of, orderly, handed, clipped, bytes-in, sizes-in, table-in, order-in, desk-in, entries-sound, stack-sound, clip-sound, hands-sound, room-sound, sound-in}
+use Rattle.layout.specs.State.{desk-of}
+use Rattle.layout.specs.Head.{table-at, clip-at, word, low, high, place, entry-at, flagged, shaped, each, all-of, orderly, handed, sizes-in, table-in, order-in, desk-in, entries-sound, stack-sound, clip-sound, hands-sound, room-sound, sound-in}
 use Rattle.layout.specs.Loads.{Sized-as, Stacked-as, Hands, Clipped, Loaded-as}
 use Rattle.layout.proofs.Each.{each-at}
-use Rattle.layout.proofs.Checked.{starts, room-none, room-is}
+use Rattle.layout.proofs.Checked.{starts, room-is}
 
 -- the window n, by its slot
 pub view-at : (p : List ℕ) (os : List (Option Window)) (n : ℕ) → getD (map (view p) os) n nothing ≡ view p (getD os n None)

@@ -1,26 +1,26 @@
 -- The order: numbers read one after another, and how often each stands in it.
-use mathlib.Core.Path.{_≡_, refl, sym, ap, subst, _∙_}
+use mathlib.Core.Path.{_≡_, refl, sym, ap, _∙_}
 use mathlib.Core.Bool.{Bool, true, false, _&&_}
-use mathlib.Core.Logic.{_⊎_, inl, inr}
+use mathlib.Core.Logic.{inl, inr}
 use mathlib.Core.List.{List, [], _∷_, _++_, map}
-use Prim.Native.Nat.{ℕ, zero, suc, _+_, _-_, _≤_, _<_}
+use Prim.Native.Nat.{ℕ, _+_, _-_, _≤_, _<_}
 use native.Mathlib.Omega.{arith}
 use lib.Dec.{eqb, ltb}
 use lib.ListN.{length, getD, take, set, replicate}
 use Rattle.std.specs.Iters.{counting}
 use Rattle.std.specs.Options.{isSome}
 use Rattle.std.specs.declared.option.Option.{Option}
-use Rattle.std.specs.declared.option.Option.the-variants.{Some, None}
+use Rattle.std.specs.declared.option.Option.the-variants.{None}
 use Rattle.std.proofs.shelf.Counted.{length-map-counting, map-counting-more}
-use Rattle.std.proofs.shelf.Lists.{take-more, getD-set-same, getD-set-other, length-set, getD-replicate, length-replicate, length-take-le, getD-past}
-use Rattle.std.proofs.shelf.Tests.{lt-ltb, le-ltb, ltb-true, eqb-true, eq-eqb, ne-eqb, cases-eq, cases-lt, both-ways, and-parts, and-from}
+use Rattle.std.proofs.shelf.Lists.{take-more, getD-set-same, getD-set-other, length-set, getD-replicate, length-replicate, getD-past}
+use Rattle.std.proofs.shelf.Tests.{lt-ltb, ne-eqb, cases-eq, cases-lt, both-ways}
 use Rattle.model.specs.Basics.{pick, bit}
 use Rattle.model.specs.Promise.{times, one}
-use Rattle.model.proofs.Order.{times-cons, times-append, times-single-same, times-single-other, one-same, one-other}
+use Rattle.model.proofs.Order.{times-append, times-single-same, times-single-other, one-same, one-other}
 use Rattle.stack.specs.declared.state.Window.{Window}
 use Rattle.layout.specs.Head.{each, all-of, orderly, handed}
 use Rattle.layout.specs.Loads.{Tally}
-use Rattle.layout.proofs.Each.{each-true, each-at, each-same, all-at, all-push}
+use Rattle.layout.proofs.Each.{each-same, all-push}
 
 pub order-more : (f : ℕ → ℕ) (i n : ℕ) (o new : List ℕ) (r : Bool) → o ≡ map f (counting 0 i) → i < 255 → r ≡ ltb (length o) 255 → n ≡ f i → new ≡ pick r (o ++ n ∷ []) o →
     new ≡ map f (counting 0 (i + 1))

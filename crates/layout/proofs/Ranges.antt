@@ -1,6 +1,6 @@
 -- Sizes in their ranges are those that are not refused.
-use mathlib.Core.Path.{_≡_, refl, sym, ap, _∙_}
-use mathlib.Core.Bool.{Bool, true, false, _&&_}
+use mathlib.Core.Path.{_≡_, refl, ap}
+use mathlib.Core.Bool.{Bool, true, false}
 use Prim.Native.Nat.{ℕ, _≤_}
 use native.Mathlib.Omega.{arith}
 use lib.Dec.{leb}
@@ -11,7 +11,7 @@ use Rattle.std.specs.declared.option.Option.{Option}
 use Rattle.std.specs.declared.option.Option.the-variants.{Some, None}
 use Rattle.model.specs.Basics.{pick}
 use Rattle.model.specs.Promise.{Fits-sizes}
-use Rattle.layout.specs.Sizes.{in-range, size-refusal}
+use Rattle.layout.specs.Sizes.{in-range}
 use Rattle.layout.specs.Ranges.{Ranges}
 
 -- a test that was passed, and what comes after it

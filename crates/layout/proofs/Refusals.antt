@@ -1,12 +1,10 @@
 -- What is refused, from the parts.
-use mathlib.Core.Path.{_≡_, refl, sym, ap, _∙_}
+use mathlib.Core.Path.{_≡_, sym, ap, _∙_}
 use Prim.Native.Nat.{ℕ, _+_}
 use Rattle.std.specs.declared.option.Option.{Option}
-use Rattle.std.specs.declared.option.Option.the-variants.{Some, None}
+use Rattle.std.specs.declared.option.Option.the-variants.{Some}
 use Rattle.model.specs.Desk.{Sizes}
 use Rattle.layout.specs.Sizes.{size-refusal}
-use Rattle.layout.specs.Refusals.{numbered-one}
-use Rattle.layout.specs.declared.sizes.Refusal.{Refusal}
 use Rattle.layout.specs.declared.budget.Budget.{Budget}
 use Rattle.layout.specs.declared.budget.Lent.{Lent}
 use Rattle.layout.specs.declared.budget.Used.{Used}

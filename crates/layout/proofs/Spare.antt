@@ -1,26 +1,24 @@
 -- What is spare in a work does not matter.
-use mathlib.Core.Path.{_≡_, refl, sym, ap, _∙_}
-use mathlib.Core.Bool.{Bool, true, false, _&&_, _||_}
-use mathlib.Core.Logic.{_⊎_, inl, inr}
+use mathlib.Core.Path.{_≡_, sym, ap, _∙_}
+use mathlib.Core.Bool.{true, false, _&&_}
+use mathlib.Core.Logic.{inl, inr}
 use mathlib.Core.List.{List, [], map}
-use Prim.Native.Nat.{ℕ, _+_, _*_, _≤_, _<_}
+use Prim.Native.Nat.{ℕ, _+_, _*_, _<_}
 use native.Mathlib.Omega.{arith}
 use lib.Dec.{eqb, leb}
-use lib.ListN.{length, getD}
+use lib.ListN.{length}
 use Rattle.std.specs.Iters.{counting}
 use Rattle.std.specs.Options.{isSome}
-use Rattle.std.specs.declared.option.Option.{Option}
-use Rattle.std.specs.declared.option.Option.the-variants.{Some, None}
+use Rattle.std.specs.declared.option.Option.the-variants.{None}
 use Rattle.std.proofs.shelf.Tests.{eq-eqb, or-left}
 use Rattle.model.specs.Basics.{pick}
 use Rattle.model.specs.Desk as desk
 use Rattle.model.specs.Desk.{area}
-use Rattle.stack.specs.declared.state.Window.{Window}
 use Rattle.stack.specs.View.{view, packed}
 use Rattle.layout.specs.Sizes.{built}
 use Rattle.layout.specs.Budget.{start-refusal}
-use Rattle.layout.specs.Head.{order-at, clip-at, table-at, word, low, high, place, entry, entry-at, flagged, shaped, each, orderly, handed, clipped, byte-in, bytes-in, sizes-in, table-in, order-in, desk-in, entries-sound, stack-sound, clip-sound, hands-sound, room-sound, sound-in}
-use Rattle.layout.specs.Laws.{Same-entry, Agree, Alike, Spare}
+use Rattle.layout.specs.Head.{order-at, clip-at, table-at, word, low, high, place, entry, entry-at, flagged, shaped, each, orderly, handed, clipped, byte-in, bytes-in, sizes-in, table-in, order-in, desk-in, entries-sound, sound-in}
+use Rattle.layout.specs.Laws.{Agree, Spare}
 use Rattle.layout.proofs.Each.{each-same}
 use Rattle.layout.proofs.Packs.{map-same}
 use Rattle.layout.proofs.Words.{entry-same}

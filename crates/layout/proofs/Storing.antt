@@ -1,27 +1,27 @@
 -- A state that was stored: what the head then holds, and that it passes the tests again.
 use mathlib.Core.Path.{_≡_, refl, sym, ap, subst, _∙_}
-use mathlib.Core.Bool.{Bool, true, false, _&&_, _||_}
+use mathlib.Core.Bool.{true, _&&_}
 use mathlib.Core.Logic.{_⊎_, inl, inr}
 use mathlib.Core.List.{List, [], _∷_, map}
 use Prim.Native.Nat.{ℕ, zero, suc, _+_, _-_, _*_, _/_, _≤_, _<_}
 use native.Mathlib.Omega.{arith}
 use lib.Dec.{eqb, leb, ltb}
-use lib.ListN.{length, getD, take, drop}
+use lib.ListN.{length, getD}
 use Rattle.std.specs.Iters.{counting}
 use Rattle.std.specs.Options.{isSome}
 use Rattle.std.specs.declared.option.Option.{Option}
 use Rattle.std.specs.declared.option.Option.the-variants.{Some, None}
 use Rattle.std.proofs.shelf.Lists.{length-map, getD-map, getD-past}
 use Rattle.std.proofs.shelf.Counted.{fill-by-all}
-use Rattle.std.proofs.shelf.Tests.{le-leb, lt-ltb, eq-eqb, cases-eq, cases-lt, both-ways, and-from, or-left, or-right}
-use Rattle.model.specs.Basics.{pick, bit}
+use Rattle.std.proofs.shelf.Tests.{le-leb, lt-ltb, eq-eqb, cases-lt, and-from, or-right}
+use Rattle.model.specs.Basics.{bit}
 use Rattle.model.specs.Desk as desk
-use Rattle.model.specs.Desk.{Desk, nothing, window, area}
-use Rattle.model.specs.Promise.{times, one}
-use Rattle.model.specs.Sound.{Sound, Shaped, Shaped-if}
+use Rattle.model.specs.Desk.{nothing, window, area}
+use Rattle.model.specs.Promise.{times}
+use Rattle.model.specs.Sound.{Shaped-if}
 use Rattle.model.proofs.Order.{one-same}
 use Rattle.stack.specs.declared.state.Window.{Window}
-use Rattle.stack.specs.View.{view, slots-of, windows-of, order-of, numbered, begun, packed, size-of}
+use Rattle.stack.specs.View.{view, slots-of, order-of, numbered, begun, packed, size-of}
 use Rattle.stack.specs.Packed.{Packed}
 use Rattle.stack.proofs.Packed.{packed-same}
 use Rattle.stack.proofs.Slots.{length-slots}
@@ -30,7 +30,7 @@ use Rattle.layout.specs.declared.state.State.{State}
 use Rattle.layout.specs.Sizes.{sizes-of}
 use Rattle.layout.specs.State.{desk-of, clip-in, Good}
 use Rattle.layout.specs.Budget.{start-refusal, work-room}
-use Rattle.layout.specs.Head.{order-at, clip-at, table-at, head-end, word, low, high, place, entry-at, flagged, shaped, each, all-of, orderly, handed, clipped, bytes-in, sizes-in, table-in, order-in, desk-in, entries-sound, stack-sound, clip-sound, hands-sound, room-sound, sound-in}
+use Rattle.layout.specs.Head.{order-at, clip-at, table-at, head-end, word, low, high, place, entry-at, flagged, shaped, all-of, orderly, handed, bytes-in, sizes-in, table-in, order-in, desk-in, entries-sound, stack-sound, clip-sound, hands-sound, room-sound, sound-in}
 use Rattle.layout.specs.Stored.{bare, Fronted, Stored}
 use Rattle.layout.proofs.Each.{each-true}
 use Rattle.layout.proofs.Words.{entry-same}

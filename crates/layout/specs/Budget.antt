@@ -1,7 +1,6 @@
 -- What the lent slices have to have, in elements, and what is refused for want of it. An element of pictures, work and sent is a word of 32 bits,
 -- one of words is a byte.
 use mathlib.Core.Path.{_≡_}
-use mathlib.Core.Bool.{Bool, true, false}
 use Prim.Native.Nat.{ℕ, _+_, _*_}
 use lib.Dec.{leb}
 use Rattle.std.specs.declared.option.Option.{Option}

@@ -9,7 +9,6 @@
 --   74 to 1097     the clipboard's bytes
 --   1098 to 1862   three words for each of 255 windows
 --   1863 to 2047   spare
-use mathlib.Core.Path.{_≡_}
 use mathlib.Core.Bool.{Bool, true, false, _&&_, _||_}
 use mathlib.Core.List.{List, [], _∷_, map}
 use Prim.Native.Nat.{ℕ, zero, suc, _+_, _-_, _*_, _/_, _%_}

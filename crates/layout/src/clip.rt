@@ -1,5 +1,4 @@
 // The clipboard in the lent work.
-ghost use mathlib.Core.Path.{_≡_};
 ghost use Prim.Native.Nat.{_+_, _*_, _≤_};
 ghost use lib.ListN.{length};
 ghost use Rattle.layout.specs.Loads.{Clipping};

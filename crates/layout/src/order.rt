@@ -2,15 +2,14 @@
 ghost use mathlib.Core.Path.{_≡_};
 ghost use mathlib.Core.Bool.{true, false, _&&_, _||_};
 ghost use mathlib.Core.List.{[]};
-ghost use Prim.Native.Nat.{ℕ, _+_, _-_, _*_, _<_, _≤_};
-ghost use lib.Dec.{eqb, ltb};
+ghost use Prim.Native.Nat.{_+_, _-_, _*_, _<_, _≤_};
+ghost use lib.Dec.{eqb};
 ghost use lib.ListN.{length, getD};
 ghost use Rattle.std.specs.Options.{isSome};
 ghost use Rattle.std.specs.declared.option.Option.the-variants.{Some, None};
 ghost use Rattle.model.specs.Basics.{bit};
-ghost use Rattle.model.specs.Promise.{times};
 ghost use Rattle.stack.specs.View.{slots-of, order-of, numbered};
-ghost use Rattle.layout.specs.Head.{bytes-in, orderly, each, all-of, handed, low, high};
+ghost use Rattle.layout.specs.Head.{bytes-in, orderly, each, handed, low, high};
 ghost use Rattle.layout.specs.Loads.{Tallied, Handed};
 use crate::bytes;
 use stack::state::Stack;

@@ -1,5 +1,4 @@
-use mathlib.Core.Path.{_≡_, ap, _∙_}
-use mathlib.Core.Bool.{Bool, true}
+use mathlib.Core.Path.{ap, _∙_}
 use Prim.Native.Nat.{_+_, _*_}
 use Rattle.layout.specs.Head.{flagged}
 use Rattle.layout.proofs.Words.{put3-0, put3-1, put3-2, put3-other}

@@ -1,5 +1,5 @@
-use mathlib.Core.Path.{_≡_, refl, sym, ap, subst, _∙_}
-use mathlib.Core.Bool.{Bool, true, false, _&&_}
+use mathlib.Core.Path.{sym, ap, subst, _∙_}
+use mathlib.Core.Bool.{_&&_}
 use mathlib.Core.List.{List}
 use borrow.Author.Needs.{needs}
 use mir.Syntax.{w16}
@@ -7,7 +7,7 @@ use mir.Val.{SFits, toZ, ofZ}
 use Rattle.std.proofs.shelf.Signed.{toZ-ofZ}
 use Rattle.std.specs.declared.option.Option.{Option}
 use Rattle.stack.specs.declared.state.Window.{Window}
-use Rattle.layout.specs.Head.{word, low, high, handed, table-in}
+use Rattle.layout.specs.Head.{word, low, high, handed}
 use Rattle.layout.specs.Loads.{Hands}
 use Rattle.layout.proofs.Holds.{no-room, no-stack, no-clip, no-hands, loaded}
 use Rattle.layout.proofs.load.load.Needs as need

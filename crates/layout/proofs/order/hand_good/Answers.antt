@@ -1,5 +1,3 @@
-use borrow.Author.Needs.{needs}
-use mathlib.Core.Path.{_≡_}
 use native.Mathlib.Omega.{arith}
 use Rattle.stack.specs.View.{slots-of}
 use Rattle.stack.proofs.Slots.{length-slots}

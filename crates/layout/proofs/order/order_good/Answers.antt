@@ -1,4 +1,4 @@
-use mathlib.Core.Path.{_≡_, _∙_}
+use mathlib.Core.Path.{_∙_}
 use Rattle.stack.specs.View.{slots-of, order-of}
 use Rattle.stack.proofs.Slots.{length-slots}
 use Rattle.layout.proofs.Orders.{orderly-by, orderly-not}

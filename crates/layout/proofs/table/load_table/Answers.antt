@@ -1,12 +1,8 @@
-use borrow.Author.Needs.{needs}
-use mathlib.Core.Path.{_≡_, sym, ap, _∙_}
-use mathlib.Core.List.{[]}
-use Prim.Native.Nat.{_<_}
+use mathlib.Core.Path.{ap, _∙_}
 use native.Mathlib.Omega.{arith}
-use lib.ListN.{length, getD}
 use Rattle.std.specs.declared.option.Option.the-variants.{None}
 use Rattle.std.proofs.shelf.Counted.{fill-by-all}
-use Rattle.stack.specs.View.{slots-of, order-of, packed}
+use Rattle.stack.specs.View.{slots-of, packed}
 use Rattle.stack.proofs.Slots.{length-slots}
 use Rattle.layout.specs.Head.{entry-at}
 use Rattle.layout.proofs.Slots.{slots-more}

@@ -1,36 +1,17 @@
-use mathlib.Core.Path.{_≡_, refl, sym, ap, _∙_}
-use lib.IntN.{pos}
-use lib.ListN.{replicate}
-use mathlib.Core.List.{[]}
-use Rattle.model.specs.Desk.{empty, nothing}
-use Rattle.layout.proofs.Empty.{fresh-packed, fresh-good}
+use mathlib.Core.Path.{sym, _∙_}
+use Rattle.stack.specs.View.{windows-of, order-of}
+use Rattle.layout.proofs.Empty.{bare-desk, fresh-packed, fresh-good}
 use Rattle.layout.proofs.state.State.new.Needs as need
 
 pub returns : need.returns
-unfolding empty
 returns c =
-    let k = fresh-packed (c .args .windows) _ (c .new .ensures .slots) in
+    let s = c .new .result in
+    let n = c .args .windows in
+    let e = c .new .ensures in
+    let k = fresh-packed n _ (e .slots) in
     record {
-      desk = λ z e p i. record {
-        windows = (c .new .ensures .windows p ∙ ap (λ m. replicate m nothing) (sym e)) i;
-        order = c .new .ensures .order i;
-        px = pos 0;
-        py = pos 0;
-        keys = 0;
-        held = 0;
-        clip-of = 0;
-        clip = [];
-      };
-      good = λ z size e f r. fresh-good z _ size f r (c .new .ensures .limit ∙ sym e) k (λ p i. record {
-        windows = (c .new .ensures .windows p ∙ ap (λ m. replicate m nothing) (sym e)) i;
-        order = c .new .ensures .order i;
-        px = pos 0;
-        py = pos 0;
-        keys = 0;
-        held = 0;
-        clip-of = 0;
-        clip = [];
-      });
+      desk = λ z q p. bare-desk z n (windows-of s p) (order-of s) q (e .windows p) (e .order);
+      good = λ z size q f r. fresh-good z _ size f r (e .limit ∙ sym q) k (λ p. bare-desk z n (windows-of s p) (order-of s) q (e .windows p) (e .order));
       packed = k;
-      limit = c .new .ensures .limit;
+      limit = e .limit;
     }
