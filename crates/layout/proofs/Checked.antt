@@ -21,7 +21,9 @@ use Rattle.stack.specs.View.{view, slots-of, windows-of, order-of, packed}
 use Rattle.layout.specs.declared.sizes.Sizes.{Sizes}
 use Rattle.layout.specs.Sizes.{sizes-of, size-refusal}
 use Rattle.layout.specs.Ranges.{Ranges}
-use Rattle.layout.specs.Budget.{first, short, start-refusal, work-room}
+use Rattle.layout.specs.declared.budget.Lent.{Lent}
+use Rattle.layout.specs.declared.budget.Used.{Used}
+use Rattle.layout.specs.Budget.{first, short, start-refusal, event-refusal, work-room, sent-room, words-room}
 use Rattle.layout.specs.Head.{table-at, word, entry-at, flagged, shaped, each, orderly, sizes-in, table-in, order-in, entries-sound, stack-sound, room-sound}
 use Rattle.layout.specs.Loads.{Stacked-as}
 use Rattle.layout.proofs.Ranges.{ranges}
@@ -53,6 +55,21 @@ starts z pictures work e =
 pub starts-not : (z : desk.Sizes) (pictures work : ℕ) → Starts z pictures work → start-refusal z pictures work ≡ None
 unfolding start-refusal Ranges
 starts-not z pictures work s = rw (ranges z .1 (s .fits), le-leb (z .dots) pictures (s .dots), le-leb (work-room z) work (s .room))
+
+-- what an event that is not refused has: room in sent and words for it too
+pub record Goes-on (z : desk.Sizes) (lent : Lent) (used : Used) : Type 0 where
+  pub start : Starts z (lent .pictures) (lent .work)
+  pub sent : used .sent + sent-room z ≤ lent .sent
+  pub words : used .words + words-room ≤ lent .words
+
+pub goes-on : (z : desk.Sizes) (lent : Lent) (used : Used) → event-refusal z lent used ≡ None → Goes-on z lent used
+unfolding event-refusal
+goes-on z lent used e =
+    let a = first-none (start-refusal z (lent .pictures) (lent .work)) _ e in
+    let b = first-none (short 2 (used .sent + sent-room z) (lent .sent)) (short 3 (used .words + words-room) (lent .words)) (a .1) in
+    record {
+      start = starts z (lent .pictures) (lent .work) (a .0); sent = short-none 2 (used .sent + sent-room z) (lent .sent) (b .0);
+      words = short-none 3 (used .words + words-room) (lent .words) (b .1) }
 
 none-is : (o : Option (ℕ × ℕ)) → isSome o ≡ false → o ≡ None
 none-is None e = refl

@@ -3,23 +3,26 @@ use mathlib.Core.Path.{_≡_, sym, ap, _∙_}
 use mathlib.Core.Bool.{true, false, _&&_}
 use mathlib.Core.Logic.{inl, inr}
 use mathlib.Core.List.{List, [], map}
-use Prim.Native.Nat.{ℕ, _+_, _*_, _<_}
+use Prim.Native.Nat.{ℕ, _+_, _*_, _/_, _%_, _≤_, _<_}
 use native.Mathlib.Omega.{arith}
 use lib.Dec.{eqb, leb}
 use lib.ListN.{length}
 use Rattle.std.specs.Iters.{counting}
 use Rattle.std.specs.Options.{isSome}
 use Rattle.std.specs.declared.option.Option.the-variants.{None}
-use Rattle.std.proofs.shelf.Tests.{eq-eqb, or-left}
+use Rattle.std.proofs.shelf.Tests.{eq-eqb, or-left, and-parts, leb-true}
 use Rattle.model.specs.Basics.{pick}
 use Rattle.model.specs.Desk as desk
 use Rattle.model.specs.Desk.{area}
+use Rattle.model.specs.Promise.{Fits-sizes}
 use Rattle.stack.specs.View.{view, packed}
 use Rattle.layout.specs.Sizes.{built}
 use Rattle.layout.specs.Budget.{start-refusal}
-use Rattle.layout.specs.Head.{order-at, clip-at, table-at, word, low, high, place, entry, entry-at, flagged, shaped, each, orderly, handed, clipped, byte-in, bytes-in, sizes-in, table-in, order-in, desk-in, entries-sound, sound-in}
-use Rattle.layout.specs.Laws.{Agree, Spare}
+use Rattle.layout.specs.Head.{byte-of, order-at, clip-at, table-at, word, low, high, place, entry, entry-at, flagged, shaped, each, orderly, handed, clipped, byte-in, bytes-in, sizes-in, table-in, order-in, desk-in, entries-sound, sound-in}
+use Rattle.layout.specs.Laws.{Agree, Alike, Spare, Spare-words}
 use Rattle.layout.proofs.Each.{each-same}
+use Rattle.layout.proofs.Checked.{starts, room-none}
+use Rattle.layout.proofs.Holds.{parts}
 use Rattle.layout.proofs.Packs.{map-same}
 use Rattle.layout.proofs.Words.{entry-same}
 
@@ -92,6 +95,23 @@ module _ (v w : List ℕ) (a : Agree v w) where
       (((leb (at 9 (omega arith) i) 255 && entries-same i) && (orderly (table i) (order i) && leb (area (map (view []) (table i))) (at 5 (omega arith) i))) &&
       (clipped (at 8 (omega arith) i) && (handed (table i) (low (at 7 (omega arith) i)) && handed (table i) (high (at 7 (omega arith) i)))))
 
+alike : (v w : List ℕ) → Agree v w → Alike v w
+alike v w a = record { sizes = sizes v w a; desk = desks v w a; sound = sound v w a }
+
 pub spare : Spare
 unfolding Spare
-spare v w a = record { sizes = sizes v w a; desk = desks v w a; sound = sound v w a }
+spare = alike
+
+pub spare-words : Spare-words
+unfolding Spare-words Fits-sizes sizes-in
+spare-words v w size e l same =
+    let p = parts v size e in
+    let c = and-parts (leb (low (word v 8)) 4096) (leb (high (word v 8)) 256) (p .clip) in
+    let few : word v 2 ≤ 255 = starts (sizes-in v) size (length v) (room-none v size (p .room)) .fits .4 in
+    let len : low (word v 8) ≤ 4096 = leb-true (low (word v 8)) 4096 (c .0) in
+    let count : word v 9 ≤ 255 = p .count in
+    alike v w (record {
+      first = λ k h. same k (omega arith);
+      order = λ i h. ap (λ x. byte-of x (i % 4)) (same (order-at + i / 4) (omega arith));
+      clip = λ i h. ap (λ x. byte-of x (i % 4)) (same (clip-at + i / 4) (omega arith));
+      table = λ n h. inr (same (table-at + 3 * n) (omega arith), same (table-at + 3 * n + 1) (omega arith), same (table-at + 3 * n + 2) (omega arith)) })

@@ -13,7 +13,7 @@ use Rattle.layout.specs.declared.state.State.{State}
 use Rattle.layout.specs.Sizes.{sizes-of}
 use Rattle.layout.specs.State.{desk-of, Good}
 use Rattle.layout.specs.Budget.{work-room}
-use Rattle.layout.specs.Head.{order-at, clip-at, table-at, word, low, high, byte-in, sizes-in, desk-in, sound-in}
+use Rattle.layout.specs.Head.{order-at, clip-at, table-at, spare-at, word, low, high, byte-in, sizes-in, desk-in, sound-in}
 use Rattle.layout.specs.Loads.{Loaded}
 use Rattle.layout.specs.Stored.{Stored}
 
@@ -43,6 +43,11 @@ pub record Alike (v w : List ℕ) : Type 0 where
 -- what is spare does not matter
 unfoldable pub Spare : Type 0
 Spare = (v w : List ℕ) → Agree v w → Alike v w
+
+-- so a sound work may have anything from the spare words on
+unfoldable pub Spare-words : Type 0
+Spare-words =
+    (v w : List ℕ) (size : ℕ) → sound-in v size ≡ true → length v ≡ length w → ((k : ℕ) → k < spare-at → word v k ≡ word w k) → Alike v w
 
 -- what was loaded is what was stored
 abbrev pub Reloaded : Sizes → State → Option (Sizes × State) → Type 0
