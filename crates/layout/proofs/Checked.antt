@@ -68,8 +68,10 @@ goes-on z lent used e =
     let a = first-none (start-refusal z (lent .pictures) (lent .work)) _ e in
     let b = first-none (short 2 (used .sent + sent-room z) (lent .sent)) (short 3 (used .words + words-room) (lent .words)) (a .1) in
     record {
-      start = starts z (lent .pictures) (lent .work) (a .0); sent = short-none 2 (used .sent + sent-room z) (lent .sent) (b .0);
-      words = short-none 3 (used .words + words-room) (lent .words) (b .1) }
+      start = starts z (lent .pictures) (lent .work) (a .0);
+      sent = short-none 2 (used .sent + sent-room z) (lent .sent) (b .0);
+      words = short-none 3 (used .words + words-room) (lent .words) (b .1);
+    }
 
 none-is : (o : Option (ℕ × ℕ)) → isSome o ≡ false → o ≡ None
 none-is None e = refl

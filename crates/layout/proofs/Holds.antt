@@ -27,10 +27,11 @@ use Rattle.stack.proofs.Packed.{packed-is, ending-area}
 use Rattle.layout.specs.declared.sizes.Sizes.{Sizes}
 use Rattle.layout.specs.declared.state.State.{State}
 use Rattle.layout.specs.State.{desk-of}
+use Rattle.layout.specs.Budget.{work-room}
 use Rattle.layout.specs.Head.{table-at, clip-at, word, low, high, place, entry-at, flagged, shaped, each, all-of, orderly, handed, sizes-in, table-in, order-in, desk-in, entries-sound, stack-sound, clip-sound, hands-sound, room-sound, sound-in}
 use Rattle.layout.specs.Loads.{Sized-as, Stacked-as, Hands, Clipped, Loaded-as}
 use Rattle.layout.proofs.Each.{each-at}
-use Rattle.layout.proofs.Checked.{starts, room-is}
+use Rattle.layout.proofs.Checked.{Starts, starts, room-none, room-is}
 
 -- the window n, by its slot
 pub view-at : (p : List ℕ) (os : List (Option Window)) (n : ℕ) → getD (map (view p) os) n nothing ≡ view p (getD os n None)
@@ -132,6 +133,10 @@ parts work size e =
       held = h .1;
     }
 
+-- the sizes of a sound work are in their ranges, and the lent memory has room for them
+pub sound-starts : (work : List ℕ) (size : ℕ) → sound-in work size ≡ true → Starts (sizes-in work) size (length work)
+sound-starts work size e = starts (sizes-in work) size (length work) (room-none work size (parts work size e .room))
+
 -- THE LAW: what passes the tests is sound
 pub sound-holds : (work : List ℕ) (size : ℕ) → sound-in work size ≡ true → (p : List ℕ) → Sound (sizes-in work) (desk-in work p)
 unfolding sizes-in desk-in window
@@ -188,6 +193,7 @@ loaded work size z s a b c d x y =
         room = subst (λ (v : desk.Sizes). v .dots ≤ size) (sym (a .sizes)) (starts (sizes-in work) size (length work) (a .room) .dots);
         sound = λ p. subst (λ (v : desk.Sizes). Sound v (desk-of s p)) (sym (a .sizes)) (subst (Sound (sizes-in work)) (sym (same p)) (sound-holds work size ok p));
       };
+      room = subst (λ (v : desk.Sizes). work-room v ≤ length work) (sym (a .sizes)) (starts (sizes-in work) size (length work) (a .room) .room);
     }
   where
     ok : sound-in work size ≡ true

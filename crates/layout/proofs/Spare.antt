@@ -21,8 +21,7 @@ use Rattle.layout.specs.Budget.{start-refusal}
 use Rattle.layout.specs.Head.{byte-of, order-at, clip-at, table-at, word, low, high, place, entry, entry-at, flagged, shaped, each, orderly, handed, clipped, byte-in, bytes-in, sizes-in, table-in, order-in, desk-in, entries-sound, sound-in}
 use Rattle.layout.specs.Laws.{Agree, Alike, Spare, Spare-words}
 use Rattle.layout.proofs.Each.{each-same}
-use Rattle.layout.proofs.Checked.{starts, room-none}
-use Rattle.layout.proofs.Holds.{parts}
+use Rattle.layout.proofs.Holds.{parts, sound-starts}
 use Rattle.layout.proofs.Packs.{map-same}
 use Rattle.layout.proofs.Words.{entry-same}
 
@@ -107,11 +106,12 @@ unfolding Spare-words Fits-sizes sizes-in
 spare-words v w size e l same =
     let p = parts v size e in
     let c = and-parts (leb (low (word v 8)) 4096) (leb (high (word v 8)) 256) (p .clip) in
-    let few : word v 2 ≤ 255 = starts (sizes-in v) size (length v) (room-none v size (p .room)) .fits .4 in
+    let few : word v 2 ≤ 255 = sound-starts v size e .fits .4 in
     let len : low (word v 8) ≤ 4096 = leb-true (low (word v 8)) 4096 (c .0) in
     let count : word v 9 ≤ 255 = p .count in
     alike v w (record {
       first = λ k h. same k (omega arith);
       order = λ i h. ap (λ x. byte-of x (i % 4)) (same (order-at + i / 4) (omega arith));
       clip = λ i h. ap (λ x. byte-of x (i % 4)) (same (clip-at + i / 4) (omega arith));
-      table = λ n h. inr (same (table-at + 3 * n) (omega arith), same (table-at + 3 * n + 1) (omega arith), same (table-at + 3 * n + 2) (omega arith)) })
+      table = λ n h. inr (same (table-at + 3 * n) (omega arith), same (table-at + 3 * n + 1) (omega arith), same (table-at + 3 * n + 2) (omega arith));
+    })

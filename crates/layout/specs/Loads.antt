@@ -16,7 +16,7 @@ use Rattle.layout.specs.declared.state.Clipboard.{Clipboard}
 use Rattle.layout.specs.declared.state.State.{State}
 use Rattle.layout.specs.Sizes.{sizes-of}
 use Rattle.layout.specs.State.{desk-of, Good}
-use Rattle.layout.specs.Budget.{start-refusal}
+use Rattle.layout.specs.Budget.{start-refusal, work-room}
 use Rattle.layout.specs.Head.{all-of, handed, clipped, low, high, word, bytes-in, sizes-in, desk-in, table-in, order-in, room-sound, stack-sound, sound-in}
 
 -- how often each number below a limit stands in an order
@@ -71,12 +71,13 @@ abbrev pub Stacked : List ℕ → Option Stack → Type 0
 Stacked work None = stack-sound work ≡ false
 Stacked work (Some s) = Stacked-as work s
 
--- the sizes and the state that a work holds, for pictures of so many dots
+-- the sizes and the state that a work holds, for pictures of so many dots; and the work has room to store it again
 pub record Loaded-as (work : List ℕ) (size : ℕ) (z : Sizes) (s : State) : Type 0 where
   pub sound : sound-in work size ≡ true
   pub sizes : sizes-of z ≡ sizes-in work
   pub desk : (p : List ℕ) → desk-of s p ≡ desk-in work p
   pub good : Good (sizes-of z) s size
+  pub room : work-room (sizes-of z) ≤ length work
 
 -- a load: nothing of a work that no start has made
 abbrev pub Loaded : List ℕ → ℕ → Option (Sizes × State) → Type 0
