@@ -2,3 +2,8 @@ pub mod Sizes
 pub mod Refusals
 pub mod Ranges
 pub mod State
+pub mod Budget
+pub mod Head
+pub mod Stored
+pub mod Loads
+pub mod Laws
