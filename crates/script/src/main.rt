@@ -1,0 +1,7 @@
+// Events as lines of text to their bytes, and with -d back.
+mod numbers;
+
+fn main() {
+    let _ = numbers::plain("12", 255);
+    let _ = numbers::signed("12");
+}
