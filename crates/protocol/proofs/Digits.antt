@@ -3,8 +3,12 @@ use mathlib.Core.Path.{_≡_, refl, sym, ap, _∙_}
 use mathlib.Core.List.{List, [], _∷_, _++_}
 use Prim.Native.Nat.{ℕ, zero, suc, _+_, _*_, _/_, _%_, _^_, _≤_, _<_}
 use native.Mathlib.Omega.{arith}
+use native.Mathlib.Nat.{div-div-eq-div-mul}
 use lib.ListN.{length, getD, take, drop}
-use lib.IntN.{ℤ, pos, _-ℤ_, _+ℤ_}
+use lib.IntN.{ℤ, pos, natAbs, _-ℤ_, _+ℤ_}
+use lib.Signed.{ltZ, _<ℤ_, _≤ℤ_}
+use mathlib.Core.Bool.{true, false}
+use Rattle.std.proofs.shelf.Signed.{ints}
 use Rattle.std.proofs.shelf.Tests.{lt-ltb, le-ltb}
 use Rattle.std.proofs.shelf.Lists.{drop-more}
 use Rattle.protocol.specs.Fields.{number, digits, numbers, all-digits, signed, unsigned, marked}
@@ -41,3 +45,26 @@ signed-low h n z l e = rw (lt-ltb n h l) e
 pub signed-high : (h n : ℕ) (z : ℤ) → h ≤ n → z ≡ pos n -ℤ pos (h + h) → z ≡ signed h n
 unfolding signed
 signed-high h n z l e = rw (le-ltb n h l) e
+
+-- digits of two and of four bytes
+pub digits-two : (v : ℕ) → v < 65536 → v % 256 ∷ (v / 256) ∷ [] ≡ digits 2 v
+digits-two v h = ap (λ t. v % 256 ∷ t ∷ []) (omega arith)
+
+low-byte : (a q b : ℕ) → a ≡ 256 * q + b → b % 256 ≡ a % 256
+low-byte a q b e = omega arith
+
+pub digits-four : (v : ℕ) → digits 2 (v % 65536) ++ digits 2 (v / 65536) ≡ digits 4 v
+digits-four v =
+    let c : v / 256 / 256 ≡ v / 65536 = div-div-eq-div-mul v 256 256 in
+    let b : v % 65536 / 256 % 256 ≡ v / 256 % 256 = low-byte (v / 256) (v / 65536) (v % 65536 / 256) (omega (arith, c)) in
+    let a : v % 65536 % 256 ≡ v % 256 = omega arith in
+    rw (a, b, c)
+
+-- the two ways to lose a sign
+pub unsigned-below : (h : ℕ) (z : ℤ) (n : ℕ) → z <ℤ pos 0 → pos n ≡ z +ℤ pos (h + h) → n ≡ unsigned h z
+unfolding unsigned
+unsigned-below h z n l e = let t : ltZ z (pos 0) ≡ true = grind (arith, ints) in rw t (ap natAbs e)
+
+pub unsigned-above : (h : ℕ) (z : ℤ) (n : ℕ) → pos 0 ≤ℤ z → pos n ≡ z → n ≡ unsigned h z
+unfolding unsigned
+unsigned-above h z n l e = let t : ltZ z (pos 0) ≡ false = grind (arith, ints) in rw t (ap natAbs e)

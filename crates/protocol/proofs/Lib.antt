@@ -1,2 +1,7 @@
-mod Digits
+mod Adding
 mod ByKind
+mod Digits
+mod Rows
+mod Signs
+mod Tests
+mod FieldLaws

@@ -3,13 +3,17 @@ use mathlib.Core.Bool.{Bool, true, false}
 use mathlib.Core.List.{List, [], _∷_, _++_}
 use Prim.Native.Nat.{ℕ, zero, suc, _+_, _-_, _*_, _/_, _%_, _^_, _<_, _≤_}
 use lib.Dec.{ltb, eqb}
-use lib.IntN.{ℤ, pos, negℤ, _+ℤ_, _-ℤ_}
-use lib.Signed.{ltZ, mag, _≤ℤ_, _<ℤ_}
+use lib.IntN.{ℤ, pos, natAbs, _+ℤ_, _-ℤ_}
+use lib.Signed.{ltZ}
 use lib.ListN.{getD, length, take, drop}
 use mathlib.Core.Path.{_≡_}
 use Rattle.std.specs.declared.result.Result.{Result}
 use Rattle.std.specs.declared.result.Result.the-variants.{Ok, Err}
 use Rattle.model.specs.Basics.{pick}
+
+-- a row of bytes
+abbrev pub Bytes : List ℕ → Type 0
+Bytes xs = (i : ℕ) → getD xs i 0 < 256
 
 -- Numbers in bytes, the low byte first.
 
@@ -20,7 +24,7 @@ number (suc w) [] = 0
 number (suc w) (x ∷ xs) = x + 256 * number w xs
 
 -- a number as w bytes
-unfoldable pub digits : ℕ → ℕ → List ℕ
+abbrev pub digits : ℕ → ℕ → List ℕ
 digits zero v = []
 digits (suc w) v = v % 256 ∷ digits w (v / 256)
 
@@ -38,7 +42,7 @@ unfoldable pub signed : ℕ → ℕ → ℤ
 signed h n = pick (ltb n h) (pos n) (pos n -ℤ pos (h + h))
 
 unfoldable pub unsigned : ℕ → ℤ → ℕ
-unsigned h z = mag (pick (ltZ z (pos 0)) (z +ℤ pos (h + h)) z)
+unsigned h z = natAbs (pick (ltZ z (pos 0)) (z +ℤ pos (h + h)) z)
 
 -- A mark is the byte 0 or 1.
 abbrev pub marked : Bool → ℕ

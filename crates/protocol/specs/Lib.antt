@@ -1,3 +1,5 @@
+pub mod Added
 pub mod Fields
 pub mod Formats
 pub mod Meaning
+pub mod Laws

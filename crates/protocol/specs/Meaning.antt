@@ -1,8 +1,9 @@
 -- What the values of the code mean: events and words of the desk, and what a reader found.
 use mathlib.Core.Bool.{Bool, true, false}
 use mathlib.Core.List.{List}
-use Prim.Native.Nat.{ℕ}
-use lib.ListN.{getD, drop}
+use Prim.Native.Nat.{ℕ, _+_, _*_}
+use lib.Dec.{leb}
+use lib.ListN.{getD, drop, length}
 use Rattle.std.specs.declared.result.Result.{Result}
 use Rattle.std.specs.declared.result.Result.the-variants.{Ok, Err}
 use Rattle.model.specs.Desk as desk
@@ -62,3 +63,32 @@ word-said bs (Err e) = Err (e .place)
 abbrev pub told-said : List ℕ → Result ((ℕ × Word) × ℕ) Fault → Found (ℕ × desk.Word)
 told-said bs (Ok r) = Ok ((r .0 .0, word-meaning bs (r .0 .1)), r .1)
 told-said bs (Err e) = Err (e .place)
+
+-- a part of elements of w bytes each lies in the bytes bs
+abbrev pub lies : ℕ → List ℕ → Part → Bool
+lies w bs q = leb (q .from + w * q .count) (length bs)
+
+-- whether all that an event or a word points to lies in the bytes bs
+abbrev pub had : List ℕ → Event → Bool
+had bs (Make c x y w h) = true
+had bs (Close c n) = true
+had bs (Move c n x y) = true
+had bs (Raise c n) = true
+had bs (Show c n b) = true
+had bs (Fill c n x y w h q) = true
+had bs (Put c n x y l) = lies 4 bs l
+had bs (Copy c n x y w h a b) = true
+had bs (Offer c l) = lies 1 bs l
+had bs (Point x y) = true
+had bs (Press b) = true
+had bs (Key k) = true
+had bs Paste = true
+
+abbrev pub word-had : List ℕ → Word → Bool
+word-had bs No = true
+word-had bs Done = true
+word-had bs (Made n) = true
+word-had bs (At n x y) = true
+word-had bs (Pressed n b) = true
+word-had bs (Typed n k) = true
+word-had bs (Pasted n l) = lies 1 bs l

@@ -1,17 +1,18 @@
 // Events and words in bytes: readers, writers, and what ties them.
-//
-// write_event(e: Event, source: &[u8], out: &mut [u8], at: usize) -> Option<usize>
-// write_word(program: u8, w: Word, source: &[u8], out: &mut [u8], at: usize) -> Option<usize>
 ghost use mathlib.Core.Path.{_≡_};
 ghost use mathlib.Core.Bool.{_&&_};
 ghost use lib.Dec.{ltb};
 ghost use lib.ListN.{length};
-ghost use Rattle.protocol.specs.Formats.{read-event, read-told};
-ghost use Rattle.protocol.specs.Meaning.{said, told-said, built-of};
+ghost use Rattle.protocol.specs.Added.{Wrote};
+ghost use Rattle.protocol.specs.Formats.{read-event, read-told, encode, encode-word};
+ghost use Rattle.protocol.specs.Meaning.{said, told-said, built-of, meaning, word-meaning, had, word-had};
 mod events;
 mod numbers;
+mod push;
+mod tell;
 mod told;
 mod types;
+mod write;
 
 pub use types::Event;
 pub use types::Fault;
@@ -64,4 +65,41 @@ pub fn read_word(words: &[u8], at: usize) -> Result<((u8, Word), usize), Fault>
     }
     let (word, end) = told::read_word_kind(kind, words, at)?;
     Ok(((words[at], word), end))
+}
+
+// Writes an event, whose parts point into the source, from the byte `at` on: how many bytes it has.
+// Where there is no room for it, or a part does not lie in the source, nothing is changed.
+pub fn write_event(e: Event, source: &[u8], out: &mut [u8], at: usize) -> Option<usize>
+    ensures { λ r. ⌜ Wrote (had (now (source .entry)) e) at (encode (meaning (now (source .entry)) e)) (now (out .entry)) (now (out .exit)) r ⌝ }
+{
+    match e {
+        Event::Make { program, x, y, wide, high } => write::write_make(out, at, program, x, y, wide, high),
+        Event::Close { program, window } => write::write_close(out, at, program, window),
+        Event::Move { program, window, x, y } => write::write_move(out, at, program, window, x, y),
+        Event::Raise { program, window } => write::write_raise(out, at, program, window),
+        Event::Show { program, window, on } => write::write_show(out, at, program, window, on),
+        Event::Fill { program, window, x, y, wide, high, colour } => write::write_fill(out, at, program, window, x, y, wide, high, colour),
+        Event::Put { program, window, x, y, colours } => write::write_put(out, at, source, program, window, x, y, colours),
+        Event::Copy { program, window, x, y, wide, high, to_x, to_y } => write::write_copy(out, at, program, window, x, y, wide, high, to_x, to_y),
+        Event::Offer { program, bytes } => write::write_offer(out, at, source, program, bytes),
+        Event::Point { x, y } => write::write_point(out, at, x, y),
+        Event::Press { down } => write::write_press(out, at, down),
+        Event::Key { key } => write::write_key(out, at, key),
+        Event::Paste => write::write_paste(out, at),
+    }
+}
+
+// Writes a word to a program, whose part points into the source, in the same way.
+pub fn write_word(program: u8, w: Word, source: &[u8], out: &mut [u8], at: usize) -> Option<usize>
+    ensures { λ r. ⌜ Wrote (word-had (now (source .entry)) w) at (encode-word program (word-meaning (now (source .entry)) w)) (now (out .entry)) (now (out .exit)) r ⌝ }
+{
+    match w {
+        Word::No => tell::write_no(out, at, program),
+        Word::Done => tell::write_done(out, at, program),
+        Word::Made { window } => tell::write_made(out, at, program, window),
+        Word::At { window, x, y } => tell::write_at(out, at, program, window, x, y),
+        Word::Pressed { window, down } => tell::write_pressed(out, at, program, window, down),
+        Word::Typed { window, key } => tell::write_typed(out, at, program, window, key),
+        Word::Pasted { window, bytes } => tell::write_pasted(out, at, program, source, window, bytes),
+    }
 }
