@@ -24,6 +24,22 @@ name-of Press = codes "press"
 name-of Key = codes "key"
 name-of Paste = codes "paste"
 
+-- what a message says of its fields
+abbrev pub wants-of : Kind → List ℕ
+wants-of Make = codes "5 fields: program x y wide high"
+wants-of Close = codes "2 fields: program window"
+wants-of Move = codes "4 fields: program window x y"
+wants-of Raise = codes "2 fields: program window"
+wants-of Show = codes "3 fields: program window mark"
+wants-of Fill = codes "7 fields: program window x y wide high colour"
+wants-of Put = codes "4 fields or more: program window x y colours.."
+wants-of Copy = codes "8 fields: program window x y wide high to-x to-y"
+wants-of Offer = codes "1 field or more: program bytes.."
+wants-of Point = codes "2 fields: x y"
+wants-of Press = codes "1 field: mark"
+wants-of Key = codes "1 field: key"
+wants-of Paste = codes "no fields"
+
 -- k if w is its name, else the other answer
 abbrev pub or-else : Kind → List ℕ → Option Kind → Option Kind
 or-else k w other = pick (sameBytes w (name-of k)) (Some k) other

@@ -1,2 +1,5 @@
 pub mod Kinds
 pub mod Numerals
+pub mod Putting
+pub mod Sentences
+pub mod Tables
