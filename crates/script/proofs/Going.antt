@@ -25,11 +25,11 @@ pub puts-from-add : (said : Option (List ℕ)) (old new bs : List ℕ) (r : Resu
 puts-from-add said old new bs (Ok u) e h = (bs, e, h)
 puts-from-add said old new bs (Err p) e h = blames p (λ x. absurd x) h
 
-before-nil : (o : Option (List ℕ)) → o ≡ before [] o
+pub before-nil : (o : Option (List ℕ)) → o ≡ before [] o
 before-nil None = refl
 before-nil (Some x) = refl
 
-before-before : (a b : List ℕ) (o : Option (List ℕ)) → before a (before b o) ≡ before (a ++ b) o
+pub before-before : (a b : List ℕ) (o : Option (List ℕ)) → before a (before b o) ≡ before (a ++ b) o
 before-before a b None = refl
 before-before a b (Some x) = ap (λ l. Some l) (sym (append-assoc a b x))
 

@@ -1,8 +1,10 @@
 // An event by its words.
 ghost use Rattle.std.specs.Of.Vec.{vec-items};
 ghost use Rattle.script.specs.Putting.{Puts};
-ghost use Rattle.script.specs.Sentences.{texts};
-ghost use Rattle.script.specs.Tables.{row-of, rest-bytes, event-bytes};
+ghost use Rattle.std.specs.Options.{mapped};
+ghost use Rattle.protocol.specs.Formats.{encode};
+ghost use Rattle.script.specs.Sentences.{texts, kind-says};
+ghost use Rattle.script.specs.Tables.{number-of, row-of, rest-bytes};
 use crate::fields::add;
 use crate::kinds::Kind;
 use crate::problem::Problem;
@@ -27,7 +29,7 @@ fn put_rest<'a>(kind: Kind, words: &[&'a str], out: &mut Vec<u8>) -> Result<(), 
 
 // The event of a kind whose fields the words say.
 pub fn put_event<'a>(kind: Kind, words: &[&'a str], out: &mut Vec<u8>) -> Result<(), Problem<'a>>
-    ensures { λ r. ⌜ Puts (event-bytes kind (texts (now (words .entry)))) (vec-items (now (out .entry))) (vec-items (now (out .exit))) r ⌝ }
+    ensures { λ r. ⌜ Puts (mapped encode (kind-says (number-of kind) (texts (now (words .entry))))) (vec-items (now (out .entry))) (vec-items (now (out .exit))) r ⌝ }
 {
     let fields = kind.fields();
     let count = fields.len();
