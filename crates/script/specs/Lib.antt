@@ -3,3 +3,4 @@ pub mod Numerals
 pub mod Putting
 pub mod Sentences
 pub mod Tables
+pub mod Texts

@@ -6,6 +6,8 @@ mod numbers;
 mod problem;
 mod rows;
 mod shown;
+#[cfg(test)]
+mod tests;
 mod text;
 
 use std::env;

@@ -1,7 +1,5 @@
 // Why a line is refused.
 use crate::kinds::Kind;
-use std::alloc::AllocError;
-use std::alloc::Refused;
 use std::fmt;
 
 // The words are those of the text.
@@ -16,18 +14,6 @@ pub enum Problem<'a> {
     // a row with more numbers than its count can say
     Long { kind: Kind },
     Memory,
-}
-
-pub impl<'a> From<AllocError> for Problem<'a> as ProblemFromAllocError {
-    fn from(_e: AllocError) -> Problem<'a> {
-        Problem::Memory
-    }
-}
-
-pub impl<'a, T: Drop> From<Refused<T>> for Problem<'a> as ProblemFromRefused {
-    fn from(_e: Refused<T>) -> Problem<'a> {
-        Problem::Memory
-    }
 }
 
 pub impl<'a> fmt::Display for Problem<'a> as ProblemDisplay {
