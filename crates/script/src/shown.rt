@@ -1,13 +1,16 @@
 // Bytes to text: an event a line.
 ghost use mathlib.Core.Path.{_≡_};
-ghost use mathlib.Core.List.{[]};
+ghost use mathlib.Core.List.{List, []};
 ghost use Prim.Native.Nat.{_+_, _<_};
 ghost use lib.Dec.{leb};
 ghost use lib.ListN.{length, take, drop};
+ghost use Rattle.std.specs.Options.{mapped};
 ghost use Rattle.std.specs.Vec.{made};
 ghost use Rattle.model.specs.Basics.{pick};
+ghost use Rattle.model.specs.Desk as desk;
 ghost use Rattle.protocol.specs.Formats.{read-event};
 ghost use Rattle.protocol.specs.Meaning.{said, built-of};
+ghost use Rattle.script.specs.Rows.{Reads};
 use protocol::Event;
 use protocol::Fault;
 use protocol::Kinds;
@@ -105,7 +108,9 @@ fn next_event(bytes: &[u8], at: usize, programs: u8, kinds: Kinds) -> Result<(Ev
 }
 
 // The events of a row of bytes, a line each, up to the first fault.
-pub fn describe(heap: Global, bytes: &[u8]) -> Result<Description, AllocError> {
+pub fn describe(heap: Global, bytes: &[u8]) -> Result<Description, AllocError>
+    ensures { λ r. ⌜ made r (λ d. (es : List desk.Event) × Reads (now (bytes .entry)) 0 es (mapped (λ f. f .place) (d .fault))) ⌝ }
+{
     let mut text = String::new(heap);
     let mut at = 0;
     while at < bytes.len() {

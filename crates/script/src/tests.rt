@@ -52,14 +52,12 @@ fn forms_are_free(rt: LibcRuntime) -> Result<(), Fail> {
     check_eq(bytes.as_slice(), b"\x09\xff\x7f\x00\x80\x0b\x0a\x00\x00\x00".as_slice())
 }
 
-fn refused_with(heap: Global, text: &str, message: &str) -> Result<bool, AllocError> {
-    match convert(heap, text) {
-        Ok(_) => Ok(false),
-        Err(refusal) => {
-            let said = format!(heap, "{refusal}")?;
-            Ok(said.as_str() == message)
-        }
-    }
+// What is said of a text that is refused.
+fn refusal_of(heap: Global, text: &str) -> Result<String, AllocError> {
+    let Err(refusal) = convert(heap, text) else {
+        return String::from_str(heap, "it is not refused");
+    };
+    format!(heap, "{refusal}")
 }
 
 #[test]
@@ -79,7 +77,8 @@ fn lines_are_refused(rt: LibcRuntime) -> Result<(), Fail> {
         ("make 0 0 0 65536 1", "line 1: '65536' is no number from 0 to 65535"),
     ];
     for (text, message) in cases {
-        check(refused_with(rt.alloc(), text, message)?).note(text)?;
+        let said = refusal_of(rt.alloc(), text)?;
+        check(said.as_str() == message).note(text)?;
     }
     Ok(())
 }
