@@ -64,7 +64,10 @@ fn run(rt: &LibcRuntime, z: Sizes, call: &[u8]) -> Result<(), AnyError> {
                 let bytes = s.clip.bytes;
                 let told = carry_out(z, &mut s, pictures.as_mut_slice(), call, e);
                 if let Some(told) = told {
-                    rt.println(Line { told, bytes: &bytes })?;
+                    rt.println(Line {
+                        told,
+                        bytes: &bytes,
+                    })?;
                 }
                 show(rt, z, &s, pictures.as_slice())?;
                 at = end;
@@ -80,7 +83,9 @@ fn run(rt: &LibcRuntime, z: Sizes, call: &[u8]) -> Result<(), AnyError> {
 }
 
 fn start(rt: &LibcRuntime) -> Result<(), AnyError> {
-    let words = std::env::args(rt)?.skip(1).collect::<Vec<String>>(rt.alloc())?;
+    let words = std::env::args(rt)?
+        .skip(1)
+        .collect::<Vec<String>>(rt.alloc())?;
     let Some(z) = sizes(words.as_slice()) else {
         return Err(USAGE.into());
     };

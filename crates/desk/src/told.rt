@@ -17,7 +17,11 @@ impl Drop for Line<'_> {
 }
 
 // The bytes of a part in decimal, each behind a space.
-fn show_bytes<W: fmt::Write>(f: &mut fmt::Formatter<W>, bytes: &[u8; 4096], part: Part) -> fmt::Result {
+fn show_bytes<W: fmt::Write>(
+    f: &mut fmt::Formatter<W>,
+    bytes: &[u8; 4096],
+    part: Part,
+) -> fmt::Result {
     for b in bytes.iter().skip(part.from).take(part.count as usize) {
         write!(f, " {b}")?;
     }
@@ -32,7 +36,11 @@ pub impl fmt::Display for Line<'_> as LineDisplay {
             Word::Done => write!(f, "{program} done"),
             Word::Made { window } => write!(f, "{program} made {window}"),
             Word::At { window, x, y } => write!(f, "{program} at {window} {x} {y}"),
-            Word::Pressed { window, down } => write!(f, "{program} pressed {window} {}", down as u8),
+            Word::Pressed { window, down } => write!(
+                f,
+                "{program} pressed {window} {}",
+                down as u8
+            ),
             Word::Typed { window, key } => write!(f, "{program} typed {window} {key}"),
             Word::Pasted { window, bytes } => {
                 write!(f, "{program} pasted {window}")?;

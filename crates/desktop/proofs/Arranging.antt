@@ -86,7 +86,7 @@ module _ (z : Sizes) (s : State) (t : Stack) (p : List ℕ) (g : Good (sizes-of 
   moved c n x y x′ y′ b a e f =
       subst (λ v. Carried (sizes-of z) (move c n x y) s p (with-stack s t) p (answered c v)) (sym a)
       (picked z (move c n x y) s (with-stack s t) p p c (mine (desk-of s p) c n) (with-window (desk-of s p) n (placed (window (desk-of s p) n) c x y)) g refl l
-        (changed-packed b n (put-at x′ y′) (begins-at x′ y′) (size-at x′ y′) f) refl (changed-desk c n _ e))
+      (changed-packed b n (put-at x′ y′) (begins-at x′ y′) (size-at x′ y′) f) refl (changed-desk c n _ e))
 
   pub shown : (c n : ℕ) (v : Bool) (b : Bool) → b ≡ mine (desk-of s p) c n →
       windows-of t p ≡ pick (mine (desk-of s p) c n) (set (windows-of (s .stack) p) n (shown-as (window (desk-of s p) n) c v)) (windows-of (s .stack) p) →
@@ -95,7 +95,7 @@ module _ (z : Sizes) (s : State) (t : Stack) (p : List ℕ) (g : Good (sizes-of 
   shown c n v b a e f =
       subst (λ u. Carried (sizes-of z) (show c n v) s p (with-stack s t) p (answered c u)) (sym a)
       (picked z (show c n v) s (with-stack s t) p p c (mine (desk-of s p) c n) (with-window (desk-of s p) n (shown-as (window (desk-of s p) n) c v)) g refl l
-        (changed-packed b n (put-on v) (begins-on v) (size-on v) f) refl (changed-desk c n _ e))
+      (changed-packed b n (put-on v) (begins-on v) (size-on v) f) refl (changed-desk c n _ e))
 
 -- counting by tests, and the room in the order that follows
 one-is : (n m : ℕ) → one n m ≡ pick (eqb n m) 1 0
@@ -130,8 +130,10 @@ make-room z s p n g l e =
   where
     there : (m : ℕ) → window (desk-of s p) m .there ≡ view p (getD (slots-of (s .stack)) m None) .there
     there m = ap (λ (w : desk.Window). w .there) (window-at (s .stack) (desk-of s p) p m refl)
+
     some : (o : Option Window) (m : ℕ) → getD (slots-of (s .stack)) m None ≡ o → view p o .there ≡ true → m < s .stack .limit
     some None m q t = absurd (both-ways false refl t)
     some (Some w) m q t = slot-low (s .stack) m w q
+
     low : (m : ℕ) → window (desk-of s p) m .there ≡ true → m < s .stack .limit
     low m t = some (getD (slots-of (s .stack)) m None) m refl (sym (there m) ∙ t)

@@ -49,15 +49,17 @@ sound-any z s p q h =
       held-there = λ n e. sym (there n) ∙ h .held-there n e;
       once = λ n. h .once n ∙ ap (λ b. pick b 1 0) (there n);
       shaped = λ n t.
-        let w = h .shaped n (there n ∙ t) in
-        let e = same-window s p q n in
-        record {
-          owner = subst (λ (v : Window). v .owner < z .programs) e (w .owner);
-          wide-least = subst (λ (v : Window). 1 ≤ v .wide) e (w .wide-least);
-          wide-most = subst (λ (v : Window). v .wide ≤ z .side) e (w .wide-most);
-          high-least = subst (λ (v : Window). 1 ≤ v .high) e (w .high-least);
-          high-most = subst (λ (v : Window). v .high ≤ z .side) e (w .high-most) };
-      few = subst (λ k. k ≤ z .dots) (same-area p q (slots-of (s .stack))) (h .few) }
+          let w = h .shaped n (there n ∙ t) in
+          let e = same-window s p q n in
+          record {
+            owner = subst (λ (v : Window). v .owner < z .programs) e (w .owner);
+            wide-least = subst (λ (v : Window). 1 ≤ v .wide) e (w .wide-least);
+            wide-most = subst (λ (v : Window). v .wide ≤ z .side) e (w .wide-most);
+            high-least = subst (λ (v : Window). 1 ≤ v .high) e (w .high-least);
+            high-most = subst (λ (v : Window). v .high ≤ z .side) e (w .high-most);
+          };
+      few = subst (λ k. k ≤ z .dots) (same-area p q (slots-of (s .stack))) (h .few);
+    }
   where
     there : (n : ℕ) → window (desk-of s p) n .there ≡ window (desk-of s q) n .there
     there n = ap (λ (v : Window). v .there) (same-window s p q n)
@@ -92,7 +94,9 @@ carried z e s s′ p p′ r g l m k d t =
         limit = m ∙ g .limit;
         packed = k;
         room = subst (λ n. z .dots ≤ n) (sym l) (g .room);
-        sound = λ a. sound-any (sizes-of z) s′ p′ a (subst (Sound (sizes-of z)) (sym q) (after-sound (sizes-of z) (desk-of s p) e (g .sound p))) } }
+        sound = λ a. sound-any (sizes-of z) s′ p′ a (subst (Sound (sizes-of z)) (sym q) (after-sound (sizes-of z) (desk-of s p) e (g .sound p)));
+      };
+    }
 
 -- a request that is refused leaves all as it was
 pub refusal : (z : Sizes) (e : Event) (s : State) (p : List ℕ) (c : ℕ) → Good (sizes-of z) s (length p) → taken (sizes-of z) (desk-of s p) e ≡ false → (c, no) ∷ [] ≡ sender e → Carried (sizes-of z) e s p s p (answered c false)

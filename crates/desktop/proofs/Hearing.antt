@@ -150,7 +150,7 @@ module _ (z : Sizes) (s : State) (p : List ℕ) (g : Good (sizes-of z) s (length
     point-quiet e =
         carried z (point x y) s (placed px py) p p None g refl refl (g .packed) (rw (ex, ey))
         (subst (λ a. [] ≡ told-place (desk-of s p) a (clamp y (z .high)) (listener (desk-of s p) a (clamp y (z .high)))) ex
-          (subst (λ b. [] ≡ told-place (desk-of s p) px b (listener (desk-of s p) px b)) ey (place-none (desk-of s p) px py _ e)))
+        (subst (λ b. [] ≡ told-place (desk-of s p) px b (listener (desk-of s p) px b)) ey (place-none (desk-of s p) px py _ e)))
 
     pub point-told : (n : ℕ) (w : Window) → pick (eqb (numbered (s .held)) 0) (front (desk-of s p) (order-of (s .stack)) px py) (numbered (s .held)) ≡ suc n → window (desk-of s p) n ≡ view p (Some w) →
         (a b : ℤ) → a ≡ px -ℤ w .x → b ≡ py -ℤ w .y → Carried (sizes-of z) (point x y) s p (placed px py) p (Some (record { program = w .owner; word = At n a b }))
@@ -158,8 +158,8 @@ module _ (z : Sizes) (s : State) (p : List ℕ) (g : Good (sizes-of z) s (length
     point-told n w e v a b ea eb =
         carried z (point x y) s (placed px py) p p _ g refl refl (g .packed) (rw (ex, ey))
         (subst (λ i. (w .owner, at n a b) ∷ [] ≡ told-place (desk-of s p) i (clamp y (z .high)) (listener (desk-of s p) i (clamp y (z .high)))) ex
-          (subst (λ j. (w .owner, at n a b) ∷ [] ≡ told-place (desk-of s p) px j (listener (desk-of s p) px j)) ey
-            (rw (ea, eb) (place-some p (desk-of s p) px py _ n w e v))))
+        (subst (λ j. (w .owner, at n a b) ∷ [] ≡ told-place (desk-of s p) px j (listener (desk-of s p) px j)) ey
+        (rw (ea, eb) (place-some p (desk-of s p) px py _ n w e v))))
 
 -- an offer is taken if the window with the keys is the program's
 pub offer-keyless : (d : Desk) (c m : ℕ) (l : List ℕ) → m ≡ 0 → ((not (eqb m 0) && eqb (window d (m - 1) .owner) c) && leb (length l) 4096) ≡ false

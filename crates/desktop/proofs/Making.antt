@@ -86,12 +86,12 @@ made-carried z s t p q c n wide high used at size x y x′ y′ b ex ey g f e u 
     let op = subst (λ i. Opened at i used p q) sz (w (omega (arith, st, us, up)) (omega (arith, al .room, rm, sz))) in
     let full : b ≡ true = a ∙ lt-ltb _ _ (make-room z s p n g nl e) in
     let vs : windows-of t q ≡ set (windows-of (s .stack) p) n (fresh (blank c x y wide high)) =
-        ap (map (view q)) k ∙
-        made-views p q n 0 (slots-of (s .stack)) (blank c x y wide high) e (omega (arith, nl, ln))
-          (λ i h. op .below i (omega (arith, st, h)))
-          (λ i h. ap (λ j. getD q (j + i) 0) (sym st) ∙ op .within i h)
-          (λ i h. ap (λ j. getD q (j + wide * high + i) 0) (sym st) ∙ op .behind i (omega (arith, st, us, h)) ∙ ap (λ j. getD p (j + i) 0) st) ∙
-        ap (λ os. set (map (view p) os) n (fresh (blank c x y wide high))) (packed-same 0 (slots-of (s .stack)) (g .packed)) in
+    ap (map (view q)) k ∙
+    made-views p q n 0 (slots-of (s .stack)) (blank c x y wide high) e (omega (arith, nl, ln))
+    (λ i h. op .below i (omega (arith, st, h)))
+    (λ i h. ap (λ j. getD q (j + i) 0) (sym st) ∙ op .within i h)
+    (λ i h. ap (λ j. getD q (j + wide * high + i) 0) (sym st) ∙ op .behind i (omega (arith, st, us, h)) ∙ ap (λ j. getD p (j + i) 0) st) ∙
+    ap (λ os. set (map (view p) os) n (fresh (blank c x y wide high))) (packed-same 0 (slots-of (s .stack)) (g .packed)) in
     let tk : makeable (sizes-of z) c (free (windows-of (s .stack) p)) wide high (area (windows-of (s .stack) p)) ≡ true = subst (λ i. makeable (sizes-of z) c i wide high (area (windows-of (s .stack) p)) ≡ true) f (subst (λ i. makeable (sizes-of z) c n wide high i ≡ true) u m) in
     carried z (make c x y wide high) s (with-stack s t) p q (told-made c n) g (op .len) l (subst (Packed 0) (sym k) (packed-is 0 _))
     (rw (tk, ← f, vs, o, full)) (rw (tk, ← f))
@@ -112,10 +112,10 @@ closed-carried z s t p q c n used size w keys held g e m u k l o ks hs es h =
     let rm = g .room in
     let cl = subst (λ i. Closed (w .at) i used p q) es (h (omega (arith, st, us, nx, sz, es)) (omega (arith, u, fw, rm))) in
     let vs : windows-of t q ≡ set (windows-of (s .stack) p) n nothing =
-        ap (map (view q)) k ∙
-        closed-views p q n 0 (slots-of (s .stack)) (λ i a. cl .below i (omega (arith, st, a)))
-          (λ i a.
-            ap (λ j. getD q (j + i) 0) (sym st) ∙ cl .behind i (omega (arith, st, us, sz, a)) ∙ ap (λ j. getD p (j + w .wide * w .high + i) 0) st ∙
-            ap (λ j. getD p (ending n 0 (slots-of (s .stack)) + j + i) 0) (sym sz)) ∙
-        ap (λ os. set (map (view p) os) n nothing) (packed-same 0 (slots-of (s .stack)) (g .packed)) in
+    ap (map (view q)) k ∙
+    closed-views p q n 0 (slots-of (s .stack)) (λ i a. cl .below i (omega (arith, st, a)))
+    (λ i a.
+    ap (λ j. getD q (j + i) 0) (sym st) ∙ cl .behind i (omega (arith, st, us, sz, a)) ∙ ap (λ j. getD p (j + w .wide * w .high + i) 0) st ∙
+    ap (λ j. getD p (ending n 0 (slots-of (s .stack)) + j + i) 0) (sym sz)) ∙
+    ap (λ os. set (map (view p) os) n nothing) (packed-same 0 (slots-of (s .stack)) (g .packed)) in
     carried z (close c n) s _ p q (answered c true) g (cl .len) l (subst (Packed 0) (sym k) (packed-is 0 _)) (rw (m, vs, o, ks, hs)) (rw m)

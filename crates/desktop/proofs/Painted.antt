@@ -69,13 +69,13 @@ painted-carried z e s p q c n w paint g o v h d =
     let pk = packed-same 0 os (g .packed) in
     let at-it : begun (ending n 0 os) (Some w) ≡ Some w = ap (λ k. begun k (Some w)) (sym st) in
     let vs : windows-of (s .stack) q ≡ set (windows-of (s .stack) p) n (painted (view p (Some w)) (paint (dots-of p w))) =
-        ap (map (view q)) (sym pk) ∙
-        painted-views p q n 0 os w o (λ k a. h .others k (subst (λ b. (k < b) ⊎ (b + w .wide * w .high ≤ k)) (sym st) a)) ∙
-        ap (λ us. set (map (view p) us) n (view q (begun (ending n 0 os) (Some w)))) pk ∙
-        ap (λ u. set (map (view p) os) n (view q u)) at-it ∙
-        ap (set (map (view p) os) n) (view-by p q w paint h) in
+    ap (map (view q)) (sym pk) ∙
+    painted-views p q n 0 os w o (λ k a. h .others k (subst (λ b. (k < b) ⊎ (b + w .wide * w .high ≤ k)) (sym st) a)) ∙
+    ap (λ us. set (map (view p) us) n (view q (begun (ending n 0 os) (Some w)))) pk ∙
+    ap (λ u. set (map (view p) os) n (view q u)) at-it ∙
+    ap (set (map (view p) os) n) (view-by p q w paint h) in
     let ws : windows-of (s .stack) q ≡ set (windows-of (s .stack) p) n (painted (window (desk-of s p) n) (paint (window (desk-of s p) n .dots))) =
-        vs ∙ ap (λ (u : desk.Window). set (windows-of (s .stack) p) n (painted u (paint (u .dots)))) (sym v) in
+    vs ∙ ap (λ (u : desk.Window). set (windows-of (s .stack) p) n (painted u (paint (u .dots)))) (sym v) in
     carried z e s s p q (answered c true) g (h .len) refl (g .packed)
     (ap (λ us. desk-with (desk-of s p) us (desk-of s p .order)) ws ∙ ap (λ (r : Desk × List (ℕ × Word)). r .0) (sym d)) (ap (λ (r : Desk × List (ℕ × Word)). r .1) (sym d))
 
@@ -108,11 +108,11 @@ pub colours-part : (bs : List ℕ) (q : Part) → colours-in bs (q .from) (q .co
 colours-part bs q =
     same-lists _ _ (colours-length bs (q .from) (q .count) ∙ sym (length-numbers 4 (q .count) (drop (q .from) bs)))
     (λ k d h.
-      let l = colours-length bs (q .from) (q .count) in
-      let b : k < q .count = omega (arith, l) in
-      getD-default (colours-in bs (q .from) (q .count)) k d 0 h ∙ colours-place bs (q .from) (q .count) k b ∙ sym (colour-drop bs (q .from + 4 * k)) ∙ ap (λ xs. colour-at xs 0) (sym (drop-drop (4 * k) (q .from) bs)) ∙
-      sym (four (drop (4 * k) (drop (q .from) bs))) ∙ sym (getD-numbers 4 (q .count) (drop (q .from) bs) k b) ∙
-      getD-default (part 4 bs q) k 0 d (let n = length-numbers 4 (q .count) (drop (q .from) bs) in omega (arith, n)))
+    let l = colours-length bs (q .from) (q .count) in
+    let b : k < q .count = omega (arith, l) in
+    getD-default (colours-in bs (q .from) (q .count)) k d 0 h ∙ colours-place bs (q .from) (q .count) k b ∙ sym (colour-drop bs (q .from + 4 * k)) ∙ ap (λ xs. colour-at xs 0) (sym (drop-drop (4 * k) (q .from) bs)) ∙
+    sym (four (drop (4 * k) (drop (q .from) bs))) ∙ sym (getD-numbers 4 (q .count) (drop (q .from) bs) k b) ∙
+    getD-default (part 4 bs q) k 0 d (let n = length-numbers 4 (q .count) (drop (q .from) bs) in omega (arith, n)))
 
 -- the three kinds of paint
 module _ (z : Sizes) (s : State) (p q : List ℕ) (c n : ℕ) (w : Window) (pic : Picture) (r : Bool) (g : Good (sizes-of z) s (length p)) (o : getD (slots-of (s .stack)) n None ≡ Some w)
@@ -136,7 +136,7 @@ module _ (z : Sizes) (s : State) (p q : List ℕ) (c n : ℕ) (w : Window) (pic 
       let bx = boxed p w x y a b t in
       let by = boxed p w i j a b u in
       let ok : copy-fits pic ar i j (length p) ≡ true =
-          rw (ep, ea) (copy-fits-yes (picture-of w) (area-at x y a b) i j (length p) (in-memory z s p n w g o) (bx .across) (bx .down) (by .across) (by .down)) in
+      rw (ep, ea) (copy-fits-yes (picture-of w) (area-at x y a b) i j (length p) (in-memory z s p n w g o) (bx .across) (bx .down) (by .across) (by .down)) in
       let d = subst (λ k. Painted k (copied (area-at x y a b) i j) p q) ep (subst (λ k. Painted pic (copied k i j) p q) ea (h (f ∙ ok))) in
       painted-carried z (copy c n x y a b i j) s p q c n w (copied (area-at x y a b) i j) g o v d (rw (m, in-box-of x y a b t, in-box-of i j a b u))
 
@@ -146,7 +146,7 @@ module _ (z : Sizes) (s : State) (p q : List ℕ) (c n : ℕ) (w : Window) (pic 
   put-carried x y bs l t e f h =
       let bx = boxed p w x y (l .count) 1 t in
       let ok : put-fits pic (span-at x y (l .count)) (length p) (l .from) (length bs) ≡ true =
-          rw ep (put-fits-yes (picture-of w) (span-at x y (l .count)) (length p) (l .from) (length bs) (in-memory z s p n w g o) (bx .across) (bx .row) (leb-true _ _ e)) in
+      rw ep (put-fits-yes (picture-of w) (span-at x y (l .count)) (length p) (l .from) (length bs) (in-memory z s p n w g o) (bx .across) (bx .row) (leb-true _ _ e)) in
       let d = subst (λ k. Painted k (put-in x y (part 4 bs l)) p q) ep (subst (λ k. Painted pic (put-in x y k) p q) (colours-part bs l) (h (f ∙ ok))) in
       let n1 = length-numbers 4 (l .count) (drop (l .from) bs) in
       let t′ : box-fits (window (desk-of s p) n) x y (length (part 4 bs l)) 1 ≡ true = ap (λ k. box-fits (window (desk-of s p) n) x y k 1) n1 ∙ in-box-of x y (l .count) 1 t in

@@ -66,7 +66,17 @@ fn area(x: u16, y: u16, wide: u16, high: u16) -> Area
 }
 
 // The box has one colour.
-pub fn fill(s: &State, pictures: &mut [u32], program: u8, window: u8, x: u16, y: u16, wide: u16, high: u16, colour: u32) -> Option<Told>
+pub fn fill(
+    s: &State,
+    pictures: &mut [u32],
+    program: u8,
+    window: u8,
+    x: u16,
+    y: u16,
+    wide: u16,
+    high: u16,
+    colour: u32,
+) -> Option<Told>
     ensures { λ r. ⌜ ((z : Sizes) → Good (sizes-of z) (now (s .entry)) (length (now (pictures .entry))) → Carried (sizes-of z) (filling program window x y wide high colour) (now (s .entry)) (now (pictures .entry)) (now (s .entry)) (now (pictures .exit)) r) ⌝ }
 {
     let Some(w) = s.stack.owned(program, window) else {
@@ -80,7 +90,18 @@ pub fn fill(s: &State, pictures: &mut [u32], program: u8, window: u8, x: u16, y:
 }
 
 // The box at to_x, to_y has what the box at x, y had before.
-pub fn copy(s: &State, pictures: &mut [u32], program: u8, window: u8, x: u16, y: u16, wide: u16, high: u16, to_x: u16, to_y: u16) -> Option<Told>
+pub fn copy(
+    s: &State,
+    pictures: &mut [u32],
+    program: u8,
+    window: u8,
+    x: u16,
+    y: u16,
+    wide: u16,
+    high: u16,
+    to_x: u16,
+    to_y: u16,
+) -> Option<Told>
     ensures { λ r. ⌜ ((z : Sizes) → Good (sizes-of z) (now (s .entry)) (length (now (pictures .entry))) → Carried (sizes-of z) (copying program window x y wide high «to_x» «to_y») (now (s .entry)) (now (pictures .entry)) (now (s .entry)) (now (pictures .exit)) r) ⌝ }
 {
     let Some(w) = s.stack.owned(program, window) else {
@@ -89,12 +110,27 @@ pub fn copy(s: &State, pictures: &mut [u32], program: u8, window: u8, x: u16, y:
     if !has_both(w, x, y, wide, high, to_x, to_y) {
         return answer(program, false);
     }
-    let _ = pixels::copy(pictures, picture(w), area(x, y, wide, high), to_x as usize, to_y as usize);
+    let _ = pixels::copy(
+        pictures,
+        picture(w),
+        area(x, y, wide, high),
+        to_x as usize,
+        to_y as usize,
+    );
     answer(program, true)
 }
 
 // The dots from x on in row y have the colours, which are a part of the call.
-pub fn put(s: &State, pictures: &mut [u32], call: &[u8], program: u8, window: u8, x: u16, y: u16, colours: Part) -> Option<Told>
+pub fn put(
+    s: &State,
+    pictures: &mut [u32],
+    call: &[u8],
+    program: u8,
+    window: u8,
+    x: u16,
+    y: u16,
+    colours: Part,
+) -> Option<Told>
     ensures { λ r. ⌜ ((z : Sizes) → Good (sizes-of z) (now (s .entry)) (length (now (pictures .entry))) → lies 4 (now (call .entry)) colours ≡ true → Carried (sizes-of z) (putting program window x y (part 4 (now (call .entry)) colours)) (now (s .entry)) (now (pictures .entry)) (now (s .entry)) (now (pictures .exit)) r) ⌝ }
 {
     let Some(w) = s.stack.owned(program, window) else {

@@ -46,14 +46,20 @@ pub fn key(s: &State, key: u32) -> Option<Told>
     let Some((n, w)) = known(s, s.keys) else {
         return None;
     };
-    Some(Told { program: w.owner, word: Word::Typed { window: n, key } })
+    Some(Told {
+        program: w.owner,
+        word: Word::Typed { window: n, key },
+    })
 }
 
 // Where the clipboard's bytes lie.
 fn whole(clip: &Clipboard) -> Part
     ensures { λ r. ⌜ part 1 (now (clip .entry) .bytes) r ≡ take (now (clip .entry) .len) (now (clip .entry) .bytes) ⌝ }
 {
-    Part { from: 0, count: clip.len as u16 }
+    Part {
+        from: 0,
+        count: clip.len as u16,
+    }
 }
 
 // The window that has the keys is told the clipboard's bytes, if an offer was ever taken.
@@ -67,7 +73,10 @@ pub fn paste(s: &State) -> Option<Told>
         return None;
     };
     let bytes = whole(&s.clip);
-    Some(Told { program: w.owner, word: Word::Pasted { window: n, bytes } })
+    Some(Told {
+        program: w.owner,
+        word: Word::Pasted { window: n, bytes },
+    })
 }
 
 // The button goes down: the window in front at the pointer has the keys and holds the pointer; if there is none nobody has.
@@ -81,7 +90,13 @@ fn press_down(s: &mut State) -> Option<Told>
     };
     s.keys = Some(n);
     s.held = Some(n);
-    Some(Told { program: w.owner, word: Word::Pressed { window: n, down: true } })
+    Some(Told {
+        program: w.owner,
+        word: Word::Pressed {
+            window: n,
+            down: true,
+        },
+    })
 }
 
 // The button comes up: the window that holds the pointer is told, and nobody holds it.
@@ -92,7 +107,13 @@ fn press_up(s: &mut State) -> Option<Told>
         return None;
     };
     s.held = None;
-    Some(Told { program: w.owner, word: Word::Pressed { window: n, down: false } })
+    Some(Told {
+        program: w.owner,
+        word: Word::Pressed {
+            window: n,
+            down: false,
+        },
+    })
 }
 
 // The button goes down or comes up.
@@ -138,8 +159,15 @@ pub fn point(z: Sizes, s: &mut State, x: i16, y: i16) -> Option<Told>
     let Some((n, w)) = heard else {
         return None;
     };
-    let word = Word::At { window: n, x: offset(px, w.x), y: offset(py, w.y) };
-    Some(Told { program: w.owner, word })
+    let word = Word::At {
+        window: n,
+        x: offset(px, w.x),
+        y: offset(py, w.y),
+    };
+    Some(Told {
+        program: w.owner,
+        word,
+    })
 }
 
 // A clipboard with the bytes of a call that a program offers; None where the call has no such bytes, or they are too many.
@@ -153,7 +181,11 @@ fn offered(call: &[u8], program: u8, part: Part) -> Option<Clipboard>
     }
     let mut bytes = [0; 4096];
     bytes[0..len].copy_from_slice(&call[from..from + len]);
-    Some(Clipboard { owner: Some(program), len, bytes })
+    Some(Clipboard {
+        owner: Some(program),
+        len,
+        bytes,
+    })
 }
 
 // The clipboard holds the bytes, if a window of the program has the keys and they are at most 4,096.

@@ -16,8 +16,14 @@ pub fn answer(program: u8, taken: bool) -> Option<Told>
     ensures { λ r. ⌜ r ≡ answered program taken ⌝ }
 {
     if taken {
-        Some(Told { program, word: Word::Done })
+        Some(Told {
+            program,
+            word: Word::Done,
+        })
     } else {
-        Some(Told { program, word: Word::No })
+        Some(Told {
+            program,
+            word: Word::No,
+        })
     }
 }

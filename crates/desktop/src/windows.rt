@@ -80,7 +80,16 @@ fn picture_start(s: &State, n: u8) -> usize
 }
 
 // A new window with the lowest free number, in front, not shown, of colour 0.
-pub fn make(z: Sizes, s: &mut State, pictures: &mut [u32], program: u8, x: i16, y: i16, wide: u16, high: u16) -> Option<Told>
+pub fn make(
+    z: Sizes,
+    s: &mut State,
+    pictures: &mut [u32],
+    program: u8,
+    x: i16,
+    y: i16,
+    wide: u16,
+    high: u16,
+) -> Option<Told>
     ensures { λ r. ⌜ (Good (sizes-of z) (now (s .entry)) (length (now (pictures .entry))) → Carried (sizes-of z) (making program x y wide high) (now (s .entry)) (now (pictures .entry)) (now (s .exit)) (now (pictures .exit)) r) ⌝ }
 {
     let n = s.stack.lowest_free();
@@ -88,13 +97,24 @@ pub fn make(z: Sizes, s: &mut State, pictures: &mut [u32], program: u8, x: i16, 
     if !may_make(z, program, n, wide, high, used) {
         return answer(program, false);
     }
-    let window = Window { owner: program, shown: false, x, y, wide, high, at: 0 };
+    let window = Window {
+        owner: program,
+        shown: false,
+        x,
+        y,
+        wide,
+        high,
+        at: 0,
+    };
     s.stack.set_window(n, Some(window));
     s.stack.pack();
     let _ = s.stack.append(n);
     let at = picture_start(s, n);
     gaps::open_gap(pictures, at, window.dots() as usize, used as usize);
-    Some(Told { program, word: Word::Made { window: n } })
+    Some(Told {
+        program,
+        word: Word::Made { window: n },
+    })
 }
 
 // The window is gone; keys and pointer aren't its any more.

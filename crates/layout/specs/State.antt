@@ -23,7 +23,8 @@ desk-of s p =
       keys = numbered (s .keys);
       held = numbered (s .held);
       clip-of = numbered (s .clip .owner);
-      clip = clip-in s }
+      clip = clip-in s;
+    }
 
 -- a state that events lead to, for sizes in their ranges and pictures of so many dots: its windows are as many as the sizes say, their pictures are
 -- packed from the start of the memory, which has room for all that the sizes allow, and the desk is sound

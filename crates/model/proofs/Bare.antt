@@ -131,11 +131,11 @@ pub bare-does : (z : Sizes) (d : Desk) (e : Event) → look (does z (bare d) e) 
 unfolding does
 bare-does z d (make c x y w h) =
     look-pick ((ltb c (z .programs) && ltb (free (map erased (d .windows))) (z .windows)) && ((leb 1 w && leb w (z .side)) && ((leb 1 h && leb h (z .side)) && leb (area (map erased (d .windows)) + w * h) (z .dots))))
-      ((ltb c (z .programs) && ltb (free (d .windows)) (z .windows)) && ((leb 1 w && leb w (z .side)) && ((leb 1 h && leb h (z .side)) && leb (area (d .windows) + w * h) (z .dots)))) _ _ _ _
-      (rw (bare-free (d .windows), bare-area (d .windows)))
-      (ap (λ k. look (with-order (with-window (bare d) k (record { there = true; owner = c; shown = false; x = x; y = y; wide = w; high = h; dots = λ i j. 0 })) (d .order ++ k ∷ []), (c, made k) ∷ [])) (bare-free (d .windows))
-        ∙ same-make d (free (d .windows)) _ _ _)
-      (same-no d _)
+    ((ltb c (z .programs) && ltb (free (d .windows)) (z .windows)) && ((leb 1 w && leb w (z .side)) && ((leb 1 h && leb h (z .side)) && leb (area (d .windows) + w * h) (z .dots)))) _ _ _ _
+    (rw (bare-free (d .windows), bare-area (d .windows)))
+    (ap (λ k. look (with-order (with-window (bare d) k (record { there = true; owner = c; shown = false; x = x; y = y; wide = w; high = h; dots = λ i j. 0 })) (d .order ++ k ∷ []), (c, made k) ∷ [])) (bare-free (d .windows))
+    ∙ same-make d (free (d .windows)) _ _ _)
+    (same-no d _)
 bare-does z d (close c n) = look-pick _ _ _ _ _ _ (bare-mine d c n) (same-close d n _ _ _ _) (same-no d _)
 bare-does z d (move c n x y) =
     look-pick _ _ _ _ _ _ (bare-mine d c n) (same-write d n _ _ _ (ap (λ (v : Window). erased (record { there = true; owner = c; shown = v .shown; x = x; y = y; wide = v .wide; high = v .high; dots = v .dots })) (bare-window d n))) (same-no d _)
@@ -146,14 +146,14 @@ bare-does z d (fill c n x y w h q) = look-pick (mine (bare d) c n && box-fits (w
 bare-does z d (put c n x y l) = look-pick (mine (bare d) c n && box-fits (window (bare d) n) x y (length l) 1) (mine d c n && box-fits (window d n) x y (length l) 1) _ _ _ _ (rw (bare-mine d c n, bare-fits d n x y (length l) 1)) (same-paint d n _ _ _) (same-no d _)
 bare-does z d (copy c n x y w h a b) =
     look-pick (mine (bare d) c n && (box-fits (window (bare d) n) x y w h && box-fits (window (bare d) n) a b w h)) (mine d c n && (box-fits (window d n) x y w h && box-fits (window d n) a b w h)) _ _ _ _
-      (rw (bare-mine d c n, bare-fits d n x y w h, bare-fits d n a b w h)) (same-paint d n _ _ _) (same-no d _)
+    (rw (bare-mine d c n, bare-fits d n x y w h, bare-fits d n a b w h)) (same-paint d n _ _ _) (same-no d _)
 bare-does z d (offer c l) =
     look-pick ((not (eqb (d .keys) 0) && eqb (window (bare d) (d .keys - 1) .owner) c) && leb (length l) 4096) ((not (eqb (d .keys) 0) && eqb (window d (d .keys - 1) .owner) c) && leb (length l) 4096) _ _ _ _
-      (rw (bare-window d (d .keys - 1))) (same-clip d _ _ _) (same-no d _)
+    (rw (bare-window d (d .keys - 1))) (same-clip d _ _ _) (same-no d _)
 bare-does z d (point x y) =
     same-pointer d _ _ _ _
     (ap (λ k. told-place (bare d) (clamp x (z .wide)) (clamp y (z .high)) (pick (eqb (d .held) 0) k (d .held))) (bare-front d (d .order) (clamp x (z .wide)) (clamp y (z .high)))
-      ∙ bare-told-at d (clamp x (z .wide)) (clamp y (z .high)) (pick (eqb (d .held) 0) (front d (d .order) (clamp x (z .wide)) (clamp y (z .high))) (d .held)))
+    ∙ bare-told-at d (clamp x (z .wide)) (clamp y (z .high)) (pick (eqb (d .held) 0) (front d (d .order) (clamp x (z .wide)) (clamp y (z .high))) (d .held)))
 bare-does z d (press true) = ap (λ k. look (press-down (bare d) k)) (bare-front d (d .order) (d .px) (d .py)) ∙ bare-down d (front d (d .order) (d .px) (d .py))
 bare-does z d (press false) = bare-up d (d .held)
 bare-does z d (key k) = ap {B = Desk × List (ℕ × Word)} (λ b. (b, told-key (bare d) k (d .keys))) (bare-bare d) ∙ ap {B = Desk × List (ℕ × Word)} (λ ms. (bare d, ms)) (bare-key d k (d .keys))

@@ -98,12 +98,14 @@ from-agree b a i (e ∷ es) p q t = (lt-leb e a (let h = t .0 in omega arith) �
 join-split : (l r w k x y : Bool) → ((l ≡ true) × (r ≡ false) × (w ≡ true)) ⊎ ((l ≡ false) × (r ≡ w)) → (l ≡ true → x ≡ y) → bit (l && (k && x)) + bit (r && (k && y)) ≡ bit (w && (k && y))
 join-split l r w k x y c h =
     elim c [
-      inl t ↦ let q = h (t .0) in rw (t .0, t .1, t .2, q) (one (k && y))
-      | inr t ↦ rw (t .0, t .1) (two (w && (k && y))) ]
+      | inl t ↦ let q = h (t .0) in rw (t .0, t .1, t .2, q) (one (k && y))
+      | inr t ↦ rw (t .0, t .1) (two (w && (k && y)))
+    ]
   where
     one : (b : Bool) → bit b + 0 ≡ bit b
     one true = refl
     one false = refl
+
     two : (b : Bool) → 0 + bit b ≡ bit b
     two true = refl
     two false = refl
@@ -111,8 +113,9 @@ join-split l r w k x y c h =
 parts : (a b w i : ℕ) → a ≤ b → b ≤ w → ((span a b i ≡ true) × (span b w i ≡ false) × (span a w i ≡ true)) ⊎ ((span a b i ≡ false) × (span b w i ≡ span a w i))
 parts a b w i p q =
     elim (cases-lt i b) [
-      inl h ↦ elim (cases-lt i a) [ inl k ↦ inr (grind (arith, tells), grind (arith, tells)) | inr k ↦ inl (grind (arith, tells), grind (arith, tells), grind (arith, tells)) ]
-      | inr h ↦ inr (grind (arith, tells), grind (arith, tells)) ]
+      | inl h ↦ elim (cases-lt i a) [ inl k ↦ inr (grind (arith, tells), grind (arith, tells)) | inr k ↦ inl (grind (arith, tells), grind (arith, tells), grind (arith, tells)) ]
+      | inr h ↦ inr (grind (arith, tells), grind (arith, tells))
+    ]
 
 cell-part : (s : ℕ → ℕ → Bool) (a b c c′ i j : ℕ) → covered (cell s a b c c′) i j ≡ bit (span a b i && (span c c′ j && s a c))
 unfolding covered
@@ -123,6 +126,7 @@ cell-part s a b c c′ i j =
   where
     kept-in : (p q t : Bool) → t ≡ true → (p && q) ≡ (p && (q && t))
     kept-in p q t e = grind arith
+
     left-out : (a b c c′ i j : ℕ) (t : Bool) → ((ltb a b && ltb c c′) && t) ≡ false → (span a b i && (span c c′ j && t)) ≡ false
     left-out a b c c′ i j t e = grind (arith, tells)
 
@@ -140,10 +144,11 @@ row-count s w c c′ i j [] a l r t h = cell-part s a w c c′ i j ∙ where-in 
 row-count s w c c′ i j (b ∷ bs) a l r t h =
     covered-append (cell s a b c c′) (row-cells s w c c′ b bs) i j ∙
     rw (cell-part s a b c c′ i j, row-count s w c c′ i j bs b (t .0) (r .1) (t .1) more)
-      (join-split (span a b i) (span b w i) (span a w i) (span c c′ j) (s a c) (s i c) (parts a b w i (r .0 .0) (t .0)) near)
+    (join-split (span a b i) (span b w i) (span a w i) (span c c′ j) (s a c) (s i c) (parts a b w i (r .0 .0) (t .0)) near)
   where
     more : (u v : ℕ) → b ≤ u → b ≤ v → u < w → v < w → Agree bs u v → s u c ≡ s v c
     more u v p q m n g = let k = r .0 .0 in h u v (omega arith) (omega arith) m n (le-leb b u p ∙ sym (le-leb b v q), g)
+
     near : span a b i ≡ true → s a c ≡ s i c
     near e =
         let p = span-ends a b i e in
@@ -165,12 +170,14 @@ cells-count s w h i j xs [] c rx tx l r t hx hy =
 cells-count s w h i j xs (b ∷ cs) c rx tx l r t hx hy =
     covered-append (row-cells s w c b 0 xs) (cells s w h xs b cs) i j ∙
     rw (row-count s w c b i j xs 0 (omega arith) rx tx (λ u v _ _ m n g. hx c u v m n g), swap (span 0 w i) (span c b j) (s i c), cells-count s w h i j xs cs b rx tx (t .0) (r .1) (t .1) hx more)
-      (join-split (span c b j) (span b h j) (span c h j) (span 0 w i) (s i c) (s i j) (parts c b h j (r .0 .0) (t .0)) near)
+    (join-split (span c b j) (span b h j) (span c h j) (span 0 w i) (s i c) (s i j) (parts c b h j (r .0 .0) (t .0)) near)
   where
     swap : (p q x : Bool) → bit (p && (q && x)) ≡ bit (q && (p && x))
     swap p q x = grind arith
+
     more : (k u v : ℕ) → b ≤ u → b ≤ v → u < h → v < h → Agree cs u v → s k u ≡ s k v
     more k u v p q m n g = let o = r .0 .0 in hy k u v (omega arith) (omega arith) m n (le-leb b u p ∙ sym (le-leb b v q), g)
+
     near : span c b j ≡ true → s i c ≡ s i j
     near e =
         let p = span-ends c b j e in
@@ -221,10 +228,10 @@ cell-solid : (s : ℕ → ℕ → Bool) (a b c c′ : ℕ) → Solid (cell s a b
 cell-solid s a b c c′ =
     by-pick ((ltb a b && ltb c c′) && s a c) (sides a b c c′ ∷ []) [] Solid
     (λ e.
-      let p = and-parts (ltb a b) (ltb c c′) (and-parts (ltb a b && ltb c c′) (s a c) e .0) in
-      let h = ltb-true a b (p .0) in
-      let k = ltb-true c c′ (p .1) in
-      (omega arith, omega arith, tt))
+    let p = and-parts (ltb a b) (ltb c c′) (and-parts (ltb a b && ltb c c′) (s a c) e .0) in
+    let h = ltb-true a b (p .0) in
+    let k = ltb-true c c′ (p .1) in
+    (omega arith, omega arith, tt))
     (λ _. tt)
 
 row-solid : (s : ℕ → ℕ → Bool) (w c c′ : ℕ) (bs : List ℕ) (a : ℕ) → Solid (row-cells s w c c′ a bs)

@@ -20,9 +20,10 @@ module _ (cover : Cover) (exact : Exact cover) where
       record {
         counts = λ i j. coloured-count (dot (after z d e .0)) (cover z d e) i j ∙ exact .counts z d e i j;
         right = λ f i j p q t.
-          with-boxes-is (dot (after z d e .0)) (cover z d e) f i j ∙
-          ap (λ k. pick (eqb k 0) (f i j) (dot (after z d e .0) i j)) (exact .counts z d e i j ∙ ap bit (and-from (on z i j) _ (and-from _ _ (lt-ltb i (z .wide) p) (lt-ltb j (z .high) q)) t));
-        formed = coloured-formed (dot (after z d e .0)) (cover z d e) (exact .solid z d e) }
+            with-boxes-is (dot (after z d e .0)) (cover z d e) f i j ∙
+            ap (λ k. pick (eqb k 0) (f i j) (dot (after z d e .0) i j)) (exact .counts z d e i j ∙ ap bit (and-from (on z i j) _ (and-from _ _ (lt-ltb i (z .wide) p) (lt-ltb j (z .high) q)) t));
+        formed = coloured-formed (dot (after z d e .0)) (cover z d e) (exact .solid z d e);
+      }
 
   -- the system stands for its desk
   abbrev Stands : Sizes → System → Desk → Type 0

@@ -94,8 +94,9 @@ module _ (d : Desk) (n i j x y w h : ℕ) (f : ℕ → ℕ → ℕ) where
   paint-outside e =
       same-dot d with-paint i j paint-front
       (λ m q. elim (and-cases (eqb (front-at d i j) (suc n)) (in-painted d n x y w h i j) e) [
-        inl ne ↦ ap (λ v. seen-of v i j) (window-other d n m _ (λ mn. eqb-false _ _ ne (q ∙ ap suc mn)))
-        | inr out ↦ field-set (λ v. seen-of v i j) (d .windows) n m (painted (window d n) (λ a b. pick (in-box x y w h a b) (f a b) (window d n .dots a b))) (pick-false _ _ _ out) ])
+        | inl ne ↦ ap (λ v. seen-of v i j) (window-other d n m _ (λ mn. eqb-false _ _ ne (q ∙ ap suc mn)))
+        | inr out ↦ field-set (λ v. seen-of v i j) (d .windows) n m (painted (window d n) (λ a b. pick (in-box x y w h a b) (f a b) (window d n .dots a b))) (pick-false _ _ _ out)
+      ])
 
 -- a window is moved: where it is in front it is seen as before only if it stays in its place
 pub same-place-is : (a b : ℤ) → same-place a b ≡ true → a ≡ b
@@ -118,8 +119,9 @@ move-outside d n c i j x y e =
     let s = not-same (front-at d i j) (front-at (with-window d n w) i j) (p .0) in
     same-dot d (with-window d n w) i j s
     (λ m q. elim (and-cases (eqb (front-at (with-window d n w) i j) (suc n)) (not (same-place (window d n .x) x && same-place (window d n .y) y)) (p .1)) [
-      inl ne ↦ ap (λ v. seen-of v i j) (window-other d n m w (λ mn. eqb-false _ _ ne (sym s ∙ q ∙ ap suc mn)))
-      | inr at ↦ window-field (λ v. seen-of v i j) d n m w (placed-seen (window d n) c i j x y (not-false _ at)) ])
+      | inl ne ↦ ap (λ v. seen-of v i j) (window-other d n m w (λ mn. eqb-false _ _ ne (sym s ∙ q ∙ ap suc mn)))
+      | inr at ↦ window-field (λ v. seen-of v i j) d n m w (placed-seen (window d n) c i j x y (not-false _ at))
+    ])
 
 -- a window is taken away
 close-outside : (d : Desk) (n i j k h : ℕ) (o : List ℕ) →
@@ -129,26 +131,29 @@ close-outside d n i j k h o e =
     let s : front-at d i j ≡ front-at d′ i j = not-same (front-at d i j) (front-at d′ i j) e in
     same-dot d d′ i j s
     (λ m q.
-      ap (λ v. seen-of v i j)
-      (hands-window (with-order (with-window d n nothing) o) k h m ∙ order-window (with-window d n nothing) o m ∙
-        window-other d n m nothing
-          (λ mn. both-ways (window d′ m .there) (ap (λ l. window d′ l .there) mn ∙ ap (λ (v : Window). v .there) (gone-window d n k h o)) (front-there d′ (d′ .order) (pos i) (pos j) m (sym s ∙ q)))))
+    ap (λ v. seen-of v i j)
+    (hands-window (with-order (with-window d n nothing) o) k h m ∙ order-window (with-window d n nothing) o m ∙
+    window-other d n m nothing
+    (λ mn. both-ways (window d′ m .there) (ap (λ l. window d′ l .there) mn ∙ ap (λ (v : Window). v .there) (gone-window d n k h o)) (front-there d′ (d′ .order) (pos i) (pos j) m (sym s ∙ q)))))
 
 make-outside : (d : Desk) (w : Window) (i j : ℕ) → w .shown ≡ false → dot (with-order (with-window d (free (d .windows)) w) (d .order ++ free (d .windows) ∷ [])) i j ≡ dot d i j
 unfolding with-order
 make-outside d w i j e =
     same-dot d d′ i j (front-same d d′ (d .order) (pos i) (pos j) (λ m. sym (lies m)) ∙ sym (front-unseen d′ f (d .order) (pos i) (pos j) (lies f ∙ gap)))
     (λ m q.
-      ap (λ v. seen-of v i j)
-      (order-window (with-window d f w) (d .order ++ f ∷ []) m ∙
-        window-other d f m w (λ mf. both-ways _ gap (ap (λ l. in-window (window d l) (pos i) (pos j)) (sym mf) ∙ front-in d (d .order) (pos i) (pos j) m q))))
+    ap (λ v. seen-of v i j)
+    (order-window (with-window d f w) (d .order ++ f ∷ []) m ∙
+    window-other d f m w (λ mf. both-ways _ gap (ap (λ l. in-window (window d l) (pos i) (pos j)) (sym mf) ∙ front-in d (d .order) (pos i) (pos j) m q))))
   where
     f : ℕ
     f = free (d .windows)
+
     d′ : Desk
     d′ = with-order (with-window d f w) (d .order ++ f ∷ [])
+
     gap : in-window (window d f) (pos i) (pos j) ≡ false
     gap = absent (window d f) (pos i) (pos j) (free-window d)
+
     lies : (m : ℕ) → in-window (window d′ m) (pos i) (pos j) ≡ in-window (window d m) (pos i) (pos j)
     lies m = ap (λ v. in-window v (pos i) (pos j)) (order-window (with-window d f w) (d .order ++ f ∷ []) m) ∙ window-field (λ v. in-window v (pos i) (pos j)) d f m w (unshown w (pos i) (pos j) e ∙ sym gap)
 
@@ -213,8 +218,9 @@ unfolding damage after
 outside z d e i j =
     by-pick (z .built (kind e)) (does z d e) (d, sender e) (λ (r : Desk × List (ℕ × Word)). ((z .built (kind e) && taken z d e) && hurt d (r .0) e i j) ≡ false → dot (r .0) i j ≡ dot d i j)
     (λ b q. elim (and-cases (z .built (kind e) && taken z d e) (hurt d (does z d e .0) e i j) q) [
-      inl t ↦ ap (λ k. dot k i j) (refused z d e (sym (ap (λ v. v && taken z d e) b) ∙ t))
-      | inr h ↦ does-outside z d e i j h ])
+      | inl t ↦ ap (λ k. dot k i j) (refused z d e (sym (ap (λ v. v && taken z d e) b) ∙ t))
+      | inr h ↦ does-outside z d e i j h
+    ])
     (λ _ _. refl)
 
 equal-same : (n : ℕ) → equal n n ≡ true
@@ -266,8 +272,9 @@ move-covers : (d d′ : Desk) (n i j : ℕ) (b : Bool) → ((m : ℕ) → (m ≡
     (turned d d′ i j || (eqb (front-at d′ i j) (suc n) && b)) ≡ true → pick (same-number (suc n) (front-at d i j)) true (same-number (suc n) (front-at d′ i j)) ≡ true
 move-covers d d′ n i j b h o e =
     elim (or-cases (turned d d′ i j) (eqb (front-at d′ i j) (suc n) && b) e) [
-      inl q ↦ changed d d′ n i j h o q
-      | inr q ↦ in-front n _ _ (inr (eqb-true _ _ (and-parts _ _ q .0))) ]
+      | inl q ↦ changed d d′ n i j h o q
+      | inr q ↦ in-front n _ _ (inr (eqb-true _ _ (and-parts _ _ q .0)))
+    ]
 
 does-covers : (z : Sizes) (d : Desk) (e : Event) (i j : ℕ) → Covers d e i j (does z d e)
 unfolding does hurt with-window with-order with-hands subject within
@@ -321,5 +328,6 @@ pub quiet-undamaged : (z : Sizes) (d : Desk) (e : Event) (i j : ℕ) → quiet z
 unfolding damage
 quiet-undamaged z d e i j t =
     elim (or-cases (eqb (subject e) 0) (not (taken z d e)) t) [
-      inl q ↦ and-right (z .built (kind e) && taken z d e) _ (about-none d (after z d e .0) e i j q)
-      | inr q ↦ and-left _ (hurt d (after z d e .0) e i j) (and-right (z .built (kind e)) (taken z d e) (not-true (taken z d e) q)) ]
+      | inl q ↦ and-right (z .built (kind e) && taken z d e) _ (about-none d (after z d e .0) e i j q)
+      | inr q ↦ and-left _ (hurt d (after z d e .0) e i j) (and-right (z .built (kind e)) (taken z d e) (not-true (taken z d e) q))
+    ]

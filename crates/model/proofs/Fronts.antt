@@ -21,7 +21,7 @@ front-in d [] x y n = λ e. absurd (omega arith)
 front-in d (m ∷ ns) x y n =
     by-pick (eqb (front d ns x y) 0) (pick (in-window (window d m) x y) (suc m) 0) (front d ns x y) (λ r. r ≡ suc n → in-window (window d n) x y ≡ true)
     (λ _. by-pick (in-window (window d m) x y) (suc m) 0 (λ r. r ≡ suc n → in-window (window d n) x y ≡ true)
-      (λ i q. let q2 : m ≡ n = omega arith in subst (λ k. in-window (window d k) x y ≡ true) q2 i) (λ _ q. absurd (omega arith)))
+    (λ i q. let q2 : m ≡ n = omega arith in subst (λ k. in-window (window d k) x y ≡ true) q2 i) (λ _ q. absurd (omega arith)))
     (λ _ q. front-in d ns x y n q)
 
 pub in-there : (w : Window) (x y : ℤ) → in-window w x y ≡ true → w .there ≡ true
@@ -67,12 +67,13 @@ unfolding front without
 front-without d n [] x y = inr refl
 front-without d n (m ∷ ns) x y =
     elim (front-without d n ns x y) [
-      inl e ↦ inl (over-some (front d ns x y) m (in-window (window d m) x y) n e)
+      | inl e ↦ inl (over-some (front d ns x y) m (in-window (window d m) x y) n e)
       | inr e ↦
           by-pick (eqb n m) (without n ns) (m ∷ without n ns)
           (λ l. (over (front d ns x y) (in-window (window d m) x y) m ≡ suc n) ⊎ (over (front d ns x y) (in-window (window d m) x y) m ≡ front d l x y))
           (λ q. elim (over-cases (front d ns x y) (in-window (window d m) x y) m) [ inl r ↦ inl (r ∙ ap suc (sym (eqb-true n m q))) | inr r ↦ inr (r ∙ e) ])
-          (λ _. inr (ap (λ f. over f (in-window (window d m) x y) m) e)) ]
+          (λ _. inr (ap (λ f. over f (in-window (window d m) x y) m) e))
+    ]
 
 -- without a window, only the others count
 pub front-off : (d d′ : Desk) (n : ℕ) (ns : List ℕ) (x y : ℤ) → ((m : ℕ) → (m ≡ n → ⊥) → window d m ≡ window d′ m) → front d (without n ns) x y ≡ front d′ (without n ns) x y
@@ -81,17 +82,18 @@ front-off d d′ n [] x y h = refl
 front-off d d′ n (m ∷ ns) x y h =
     by-pick (eqb n m) (without n ns) (m ∷ without n ns) (λ l. front d l x y ≡ front d′ l x y) (λ _. front-off d d′ n ns x y h)
     (λ q.
-      ap (λ f. over f (in-window (window d m) x y) m) (front-off d d′ n ns x y h) ∙
-        ap (λ w. over (front d′ (without n ns) x y) (in-window w x y) m) (h m (λ e. eqb-false n m q (sym e))))
+    ap (λ f. over f (in-window (window d m) x y) m) (front-off d d′ n ns x y h) ∙
+    ap (λ w. over (front d′ (without n ns) x y) (in-window w x y) m) (h m (λ e. eqb-false n m q (sym e))))
 
 -- one window changes, or its place in the order: what is in front is the same, or it was that window, or it is now
 pub front-subject : (d d′ : Desk) (n : ℕ) (o o′ : List ℕ) (x y : ℤ) → ((m : ℕ) → (m ≡ n → ⊥) → window d m ≡ window d′ m) → without n o ≡ without n o′ →
     (front d o x y ≡ front d′ o′ x y) ⊎ ((front d o x y ≡ suc n) ⊎ (front d′ o′ x y ≡ suc n))
 front-subject d d′ n o o′ x y h e =
     elim (front-without d n o x y) [
-      inl p ↦ inr (inl p)
+      | inl p ↦ inr (inl p)
       | inr p ↦
-          elim (front-without d′ n o′ x y) [ inl q ↦ inr (inr q) | inr q ↦ inl (p ∙ front-off d d′ n o x y h ∙ ap (λ l. front d′ l x y) e ∙ sym q) ] ]
+          elim (front-without d′ n o′ x y) [ inl q ↦ inr (inr q) | inr q ↦ inl (p ∙ front-off d d′ n o x y h ∙ ap (λ l. front d′ l x y) e ∙ sym q) ]
+    ]
 
 -- a window in front of all that isn't seen there
 pub front-unseen : (d : Desk) (n : ℕ) (ns : List ℕ) (x y : ℤ) → in-window (window d n) x y ≡ false → front d (ns ++ n ∷ []) x y ≡ front d ns x y

@@ -109,8 +109,9 @@ same-lies : (d d′ : Desk) (n : ℕ) (x y x′ y′ : ℤ) → ((m : ℕ) → (
     in-window (window d′ n) x y ≡ in-window (window d′ n) x′ y′ → (m : ℕ) → in-window (window d′ m) x y ≡ in-window (window d′ m) x′ y′
 same-lies d d′ n x y x′ y′ off h e m =
     elim (cases-eq m n) [
-      inl q ↦ subst (λ k. in-window (window d′ k) x y ≡ in-window (window d′ k) x′ y′) (sym q) e
-      | inr q ↦ subst (λ (w : Window). in-window w x y ≡ in-window w x′ y′) (off m q) (h m) ]
+      | inl q ↦ subst (λ k. in-window (window d′ k) x y ≡ in-window (window d′ k) x′ y′) (sym q) e
+      | inr q ↦ subst (λ (w : Window). in-window w x y ≡ in-window w x′ y′) (off m q) (h m)
+    ]
 
 -- where a window lies, its dots are counted from its upper left one
 window-left : (w : Window) (x y : ℤ) → in-window w x y ≡ true → leZ (w .x) x ≡ true
@@ -133,17 +134,19 @@ module _ (z : Sizes) (d d′ : Desk) (n : ℕ) (b : Painted) (off : (m : ℕ) �
   front-x k u v p q t =
       let a = agree-both (edges (z .wide) (window d′ n .x) (window d′ n .x +ℤ pos (window d′ n .wide))) _ u v t in
       let c = agree-both (edges (z .wide) (window d n .x +ℤ pos (b .x)) (window d n .x +ℤ pos (b .x + b .wide))) (across (z .wide) (d .windows)) u v (a .1) in
-      let l = λ (m : ℕ). window-all-across (z .wide) d m u v (pos k) p q (c .1) in
-      (front-places d (d .order) (pos u) (pos k) (pos v) (pos k) l,
-      front-places d′ (d′ .order) (pos u) (pos k) (pos v) (pos k) (same-lies d d′ n (pos u) (pos k) (pos v) (pos k) off l (window-across (z .wide) (window d′ n) u v (pos k) p q (a .0))))
+      let l = λ (m : ℕ). window-all-across (z .wide) d m u v (pos k) p q (c .1) in (
+        front-places d (d .order) (pos u) (pos k) (pos v) (pos k) l,
+        front-places d′ (d′ .order) (pos u) (pos k) (pos v) (pos k) (same-lies d d′ n (pos u) (pos k) (pos v) (pos k) off l (window-across (z .wide) (window d′ n) u v (pos k) p q (a .0))),
+      )
 
   front-y : (k u v : ℕ) → u < z .high → v < z .high → Agree (y-edges z d d′ n b) u v → (front-at d k u ≡ front-at d k v) × (front-at d′ k u ≡ front-at d′ k v)
   front-y k u v p q t =
       let a = agree-both (edges (z .high) (window d′ n .y) (window d′ n .y +ℤ pos (window d′ n .high))) _ u v t in
       let c = agree-both (edges (z .high) (window d n .y +ℤ pos (b .y)) (window d n .y +ℤ pos (b .y + b .high))) (down (z .high) (d .windows)) u v (a .1) in
-      let l = λ (m : ℕ). window-all-down (z .high) d m u v (pos k) p q (c .1) in
-      (front-places d (d .order) (pos k) (pos u) (pos k) (pos v) l,
-      front-places d′ (d′ .order) (pos k) (pos u) (pos k) (pos v) (same-lies d d′ n (pos k) (pos u) (pos k) (pos v) off l (window-down (z .high) (window d′ n) u v (pos k) p q (a .0))))
+      let l = λ (m : ℕ). window-all-down (z .high) d m u v (pos k) p q (c .1) in (
+        front-places d (d .order) (pos k) (pos u) (pos k) (pos v) l,
+        front-places d′ (d′ .order) (pos k) (pos u) (pos k) (pos v) (same-lies d d′ n (pos k) (pos u) (pos k) (pos v) off l (window-down (z .high) (window d′ n) u v (pos k) p q (a .0))),
+      )
 
   -- where the window is in front, a place in the box is one between its edges
   inner-x : (x w i k : ℕ) → front-at d i k ≡ suc n → (leb x (mag (pos i -ℤ window d n .x)) && ltb (mag (pos i -ℤ window d n .x)) (x + w)) ≡ lies (window d n .x +ℤ pos x) (window d n .x +ℤ pos (x + w)) i
@@ -159,8 +162,9 @@ module _ (z : Sizes) (d d′ : Desk) (n : ℕ) (b : Painted) (off : (m : ℕ) �
   gated : (f g : ℕ) (p q : Bool) → f ≡ g → (f ≡ suc n → p ≡ q) → (eqb f (suc n) && p) ≡ (eqb g (suc n) && q)
   gated f g p q e h =
       elim (cases-bool (eqb g (suc n))) [
-        inl t ↦ rw (e, t) (h (e ∙ eqb-true g (suc n) t))
-        | inr t ↦ rw (e, t) ]
+        | inl t ↦ rw (e, t) (h (e ∙ eqb-true g (suc n) t))
+        | inr t ↦ rw (e, t)
+      ]
 
   paint-x : (k u v : ℕ) → u < z .wide → v < z .wide → Agree (x-edges z d d′ n b) u v →
       (eqb (front-at d u k) (suc n) && in-painted d n (b .x) (b .y) (b .wide) (b .high) u k) ≡ (eqb (front-at d v k) (suc n) && in-painted d n (b .x) (b .y) (b .wide) (b .high) v k)
@@ -170,7 +174,7 @@ module _ (z : Sizes) (d d′ : Desk) (n : ℕ) (b : Painted) (off : (m : ℕ) �
       let a = agree-both (edges (z .wide) (window d′ n .x) (window d′ n .x +ℤ pos (window d′ n .wide))) _ u v t in
       let c = agree-both (edges (z .wide) (window d n .x +ℤ pos (b .x)) (window d n .x +ℤ pos (b .x + b .wide))) (across (z .wide) (d .windows)) u v (a .1) in
       gated _ _ _ _ f (λ e. ap (λ l. l && (leb (b .y) (mag (pos k -ℤ window d n .y)) && ltb (mag (pos k -ℤ window d n .y)) (b .y + b .high)))
-        (inner-x (b .x) (b .wide) u k e ∙ edges-agree (z .wide) _ _ u v p q (c .0) ∙ sym (inner-x (b .x) (b .wide) v k (sym f ∙ e))))
+      (inner-x (b .x) (b .wide) u k e ∙ edges-agree (z .wide) _ _ u v p q (c .0) ∙ sym (inner-x (b .x) (b .wide) v k (sym f ∙ e))))
 
   paint-y : (k u v : ℕ) → u < z .high → v < z .high → Agree (y-edges z d d′ n b) u v →
       (eqb (front-at d k u) (suc n) && in-painted d n (b .x) (b .y) (b .wide) (b .high) k u) ≡ (eqb (front-at d k v) (suc n) && in-painted d n (b .x) (b .y) (b .wide) (b .high) k v)
@@ -180,7 +184,7 @@ module _ (z : Sizes) (d d′ : Desk) (n : ℕ) (b : Painted) (off : (m : ℕ) �
       let a = agree-both (edges (z .high) (window d′ n .y) (window d′ n .y +ℤ pos (window d′ n .high))) _ u v t in
       let c = agree-both (edges (z .high) (window d n .y +ℤ pos (b .y)) (window d n .y +ℤ pos (b .y + b .high))) (down (z .high) (d .windows)) u v (a .1) in
       gated _ _ _ _ f (λ e. ap (λ l. (leb (b .x) (mag (pos k -ℤ window d n .x)) && ltb (mag (pos k -ℤ window d n .x)) (b .x + b .wide)) && l)
-        (inner-y (b .y) (b .high) k u e ∙ edges-agree (z .high) _ _ u v p q (c .0) ∙ sym (inner-y (b .y) (b .high) k v (sym f ∙ e))))
+      (inner-y (b .y) (b .high) k u e ∙ edges-agree (z .high) _ _ u v p q (c .0) ∙ sym (inner-y (b .y) (b .high) k v (sym f ∙ e))))
 
 -- an event changes no window but its subject
 abbrev Off : Desk → ℕ → Desk × List (ℕ × Word) → Type 0
@@ -215,7 +219,6 @@ does-off z d paste n t = absurd (omega arith)
 after-off : (z : Sizes) (d : Desk) (e : Event) (n : ℕ) → subject e ≡ suc n → Off d n (after z d e)
 unfolding after
 after-off z d e n t = by-pick (z .built (kind e)) (does z d e) (d, sender e) (Off d n) (λ _. does-off z d e n t) (λ _ _ _. refl)
-
 
 -- two dots that no edge of an event's grid parts, across or down
 abbrev Same-hurt : Sizes → Desk → Event → Type 0
@@ -255,11 +258,12 @@ unfolding grid damage
 grid-exact =
     record {
       counts = λ z d e i j.
-        let g = z .built (kind e) && taken z d e in
-        grid-count (damage z d e) (z .wide) (z .high) i j (x-edges z d (after z d e .0) (pred (subject e)) (painted-box e)) (y-edges z d (after z d e .0) (pred (subject e)) (painted-box e))
+          let g = z .built (kind e) && taken z d e in
+          grid-count (damage z d e) (z .wide) (z .high) i j (x-edges z d (after z d e .0) (pred (subject e)) (painted-box e)) (y-edges z d (after z d e .0) (pred (subject e)) (painted-box e))
           (x-upto z d (after z d e .0) (pred (subject e)) (painted-box e)) (y-upto z d (after z d e .0) (pred (subject e)) (painted-box e))
           (λ k u v p q t. ap (λ v. g && v) (same-hurt z d e .0 k u v p q t)) (λ k u v p q t. ap (λ v. g && v) (same-hurt z d e .1 k u v p q t));
-      solid = λ z d e. cells-solid (damage z d e) (z .wide) (z .high) _ _ 0 }
+      solid = λ z d e. cells-solid (damage z d e) (z .wide) (z .high) _ _ 0;
+    }
 
 -- how many boxes there are at most: 2 edges of each window, 4 more, and 1
 insert-length : (e : ℕ) (fs : List ℕ) → length (insert e fs) ≡ suc (length fs)
@@ -292,7 +296,7 @@ grid-length z d d′ n b s =
     let q : suc (length (sorted (y-edges z d d′ n b))) ≡ 2 * length (d .windows) + 5 = simp sorted-length (omega arith) in
     subst (λ (k : ℕ). length (cells s (z .wide) (z .high) (sorted (x-edges z d d′ n b)) 0 (sorted (y-edges z d d′ n b))) ≤ k * (2 * length (d .windows) + 5)) q
     (subst (λ (k : ℕ). length (cells s (z .wide) (z .high) (sorted (x-edges z d d′ n b)) 0 (sorted (y-edges z d d′ n b))) ≤ suc (length (sorted (y-edges z d d′ n b))) * k) p
-      (cells-length s (z .wide) (z .high) (sorted (x-edges z d d′ n b)) (sorted (y-edges z d d′ n b)) 0))
+    (cells-length s (z .wide) (z .high) (sorted (x-edges z d d′ n b)) (sorted (y-edges z d d′ n b)) 0))
 
 pub few-boxes : Few-boxes
 unfolding Few-boxes grid

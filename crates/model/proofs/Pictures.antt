@@ -24,8 +24,9 @@ close-dots : (d : Desk) (m n i j k h : ℕ) (o : List ℕ) → window (with-hand
     window (with-hands (with-order (with-window d m nothing) o) k h) n .dots i j ≡ window d n .dots i j
 close-dots d m n i j k h o t =
     elim (cases-eq n m) [
-      inl q ↦ absurd (both-ways _ (ap (λ l. window (with-hands (with-order (with-window d m nothing) o) k h) l .there) q ∙ ap (λ (w : Window). w .there) (gone-window d m k h o)) t)
-      | inr q ↦ all-same d _ n i j (hands-window _ _ _ n ∙ order-window _ _ n ∙ window-other d m n nothing q) ]
+      | inl q ↦ absurd (both-ways _ (ap (λ l. window (with-hands (with-order (with-window d m nothing) o) k h) l .there) q ∙ ap (λ (w : Window). w .there) (gone-window d m k h o)) t)
+      | inr q ↦ all-same d _ n i j (hands-window _ _ _ n ∙ order-window _ _ n ∙ window-other d m n nothing q)
+    ]
 
 does-dots : (z : Sizes) (d : Desk) (e : Event) (n i j : ℕ) → window d n .there ≡ true → (is-paint e ≡ true → window d n .owner ≡ painter e → ⊥) → Same-dots d n i j (does z d e)
 unfolding does is-paint painter

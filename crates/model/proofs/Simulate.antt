@@ -27,8 +27,9 @@ dot-empty z i j = refl
 screen-step : (z : Sizes) (d : Desk) (e : Event) (bs : List Box) (f : ℕ → ℕ → ℕ) (i j : ℕ) → Shows z d e bs → i < z .wide → j < z .high → f i j ≡ dot d i j → with-boxes f bs i j ≡ dot (after z d e .0) i j
 screen-step z d e bs f i j w p q h =
     elim (cases-bool (damage z d e i j)) [
-      inl t ↦ w .right f i j p q t
-      | inr t ↦ unwritten bs f i j (w .counts i j ∙ ap bit (and-right (on z i j) (damage z d e i j) t)) ∙ h ∙ sym (outside z d e i j t) ]
+      | inl t ↦ w .right f i j p q t
+      | inr t ↦ unwritten bs f i j (w .counts i j ∙ ap bit (and-right (on z i j) (damage z d e i j) t)) ∙ h ∙ sym (outside z d e i j t)
+    ]
 
 -- no box off the screen, and no dot twice
 abbrev Apart : Sizes → List Box → Type 0
@@ -38,9 +39,10 @@ off : (z : Sizes) (i j : ℕ) → (z .wide ≤ i) ⊎ (z .high ≤ j) → on z i
 off z i j o = elim o [ inl p ↦ and-left (ltb i (z .wide)) (ltb j (z .high)) (le-ltb i (z .wide) p) | inr p ↦ and-right (ltb i (z .wide)) (ltb j (z .high)) (le-ltb j (z .high) p) ]
 
 shows-apart : (z : Sizes) (d : Desk) (e : Event) (bs : List Box) → Shows z d e bs → Apart z bs
-shows-apart z d e bs w i j =
-    (let n = w .counts i j in let m = bit-small (on z i j && damage z d e i j) in omega arith,
-    λ o. w .counts i j ∙ ap bit (and-left (on z i j) (damage z d e i j) (off z i j o)))
+shows-apart z d e bs w i j = (
+  let n = w .counts i j in let m = bit-small (on z i j && damage z d e i j) in omega arith,
+  λ o. w .counts i j ∙ ap bit (and-left (on z i j) (damage z d e i j) (off z i j o)),
+)
 
 module _ (S : Type 0) (start : Sizes → S) (happens : Sizes → S → Event → S) (sends : S → List Box) (tells : S → List (ℕ × Word)) where
   module _ (Stands : Sizes → S → Desk → Type 0) (sim : Simulates S start happens sends tells Stands) where
@@ -139,7 +141,8 @@ module _ (S : Type 0) (start : Sizes → S) (happens : Sizes → S → Event →
           damage = sends-damage;
           formed = sends-formed;
           nothing = sends-nothing;
-          unseen = unseen-by }
+          unseen = unseen-by;
+        }
 
 pub simulation : (S : Type 0) → Simulation S
 unfolding Simulation

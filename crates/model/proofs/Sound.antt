@@ -59,8 +59,13 @@ pub empty-sound : (z : Sizes) → Sound z (empty z)
 unfolding empty times window
 empty-sound z =
     record {
-      len = length-replicate (z .windows) nothing; keys-there = λ n e. absurd (omega arith); held-there = λ n e. absurd (omega arith); once = λ n. rw (replicate-there (z .windows) n);
-      shaped = λ n t. absurd (both-ways _ (replicate-there (z .windows) n) t); few = let a = area-none (z .windows) in omega arith }
+      len = length-replicate (z .windows) nothing;
+      keys-there = λ n e. absurd (omega arith);
+      held-there = λ n e. absurd (omega arith);
+      once = λ n. rw (replicate-there (z .windows) n);
+      shaped = λ n t. absurd (both-ways _ (replicate-there (z .windows) n) t);
+      few = let a = area-none (z .windows) in omega arith;
+    }
 
 -- a window is written that is there as before, and has as many dots
 pub write-sound : (z : Sizes) (d : Desk) (n : ℕ) (w : Window) → Sound z d → w .there ≡ window d n .there → size-of w ≡ size-of (window d n) → Shaped-if z w → Sound z (with-window d n w)
@@ -72,7 +77,8 @@ write-sound z d n w s e a sh =
       held-there = λ m q. same m ∙ s .held-there m q;
       once = λ m. s .once m ∙ ap (λ b. pick b 1 0) (sym (same m));
       shaped = λ m. at-set (Shaped-if z) (d .windows) n m w sh (s .shaped m);
-      few = let f = s .few in let g = area-same (d .windows) n w a in omega arith }
+      few = let f = s .few in let g = area-same (d .windows) n w a in omega arith;
+    }
   where
     same : (m : ℕ) → getD (set (d .windows) n w) m nothing .there ≡ getD (d .windows) m nothing .there
     same m = field-set (λ v. v .there) (d .windows) n m w e
@@ -88,9 +94,10 @@ raise-sound z d n s e = record { len = s .len; keys-there = s .keys-there; held-
     again : (m : ℕ) → times m (without n (d .order) ++ n ∷ []) ≡ pick (getD (d .windows) m nothing .there) 1 0
     again m =
         elim (cases-eq m n) [
-          inl q ↦ rw (times-append, q, times-without-same, times-single-same, e)
+          | inl q ↦ rw (times-append, q, times-without-same, times-single-same, e)
           | inr q ↦ let a = times-append m (without n (d .order)) (n ∷ []) in let b = times-without-other m n (d .order) q in let c = times-single-other m n q in
-              let g : times m (without n (d .order) ++ n ∷ []) ≡ times m (d .order) = omega arith in g ∙ s .once m ]
+              let g : times m (without n (d .order) ++ n ∷ []) ≡ times m (d .order) = omega arith in g ∙ s .once m
+        ]
 
 -- a window is taken away: it is in the order no more, and has neither keys nor pointer
 gone-there : (ws : List Window) (n m : ℕ) → (m ≡ n → ⊥) → getD (set ws n nothing) m nothing .there ≡ getD ws m nothing .there
@@ -101,18 +108,25 @@ pub close-sound : (z : Sizes) (d : Desk) (n : ℕ) → Sound z d →
 unfolding with-hands with-order with-window window
 close-sound z d n s =
     record {
-      len = length-set (d .windows) n nothing ∙ s .len; keys-there = left (d .keys) (s .keys-there); held-there = left (d .held) (s .held-there); once = again;
-      shaped = λ m. at-set (Shaped-if z) (d .windows) n m nothing (λ t. absurd (both-ways false refl t)) (s .shaped m); few = let f = s .few in let a = area-most (d .windows) n nothing in omega arith }
+      len = length-set (d .windows) n nothing ∙ s .len;
+      keys-there = left (d .keys) (s .keys-there);
+      held-there = left (d .held) (s .held-there);
+      once = again;
+      shaped = λ m. at-set (Shaped-if z) (d .windows) n m nothing (λ t. absurd (both-ways false refl t)) (s .shaped m);
+      few = let f = s .few in let a = area-most (d .windows) n nothing in omega arith;
+    }
   where
     left : (k : ℕ) → ((m : ℕ) → k ≡ suc m → getD (d .windows) m nothing .there ≡ true) → (m : ℕ) → pick (eqb k (suc n)) 0 k ≡ suc m → getD (set (d .windows) n nothing) m nothing .there ≡ true
     left k h m =
         by-pick (eqb k (suc n)) 0 k (λ r. r ≡ suc m → getD (set (d .windows) n nothing) m nothing .there ≡ true) (λ _ q. absurd (omega arith))
         (λ ne q. gone-there (d .windows) n m (λ mn. eqb-false k (suc n) ne (q ∙ ap suc mn)) ∙ h m q)
+
     again : (m : ℕ) → times m (without n (d .order)) ≡ pick (getD (set (d .windows) n nothing) m nothing .there) 1 0
     again m =
         elim (cases-eq m n) [
-          inl q ↦ rw (q, times-without-same, gone-here (d .windows) n)
-          | inr q ↦ times-without-other m n (d .order) q ∙ s .once m ∙ ap (λ b. pick b 1 0) (sym (gone-there (d .windows) n m q)) ]
+          | inl q ↦ rw (q, times-without-same, gone-here (d .windows) n)
+          | inr q ↦ times-without-other m n (d .order) q ∙ s .once m ∙ ap (λ b. pick b 1 0) (sym (gone-there (d .windows) n m q))
+        ]
 
 -- a window is made at the first free number
 pub make-sound : (z : Sizes) (d : Desk) (w : Window) → Sound z d → w .there ≡ true → Shaped z w → area (d .windows) + w .wide * w .high ≤ z .dots → free (d .windows) < z .windows →
@@ -120,25 +134,33 @@ pub make-sound : (z : Sizes) (d : Desk) (w : Window) → Sound z d → w .there 
 unfolding with-order with-window window
 make-sound z d w s e sh fit lt =
     record {
-      len = length-set (d .windows) (free (d .windows)) w ∙ s .len; keys-there = λ m q. kept m (s .keys-there m q); held-there = λ m q. kept m (s .held-there m q); once = again;
+      len = length-set (d .windows) (free (d .windows)) w ∙ s .len;
+      keys-there = λ m q. kept m (s .keys-there m q);
+      held-there = λ m q. kept m (s .held-there m q);
+      once = again;
       shaped = λ m. at-set (Shaped-if z) (d .windows) (free (d .windows)) m w (λ _. sh) (s .shaped m);
-      few = let a = area-most (d .windows) (free (d .windows)) w in let b : size-of w ≡ w .wide * w .high = rw e in omega arith }
+      few = let a = area-most (d .windows) (free (d .windows)) w in let b : size-of w ≡ w .wide * w .high = rw e in omega arith;
+    }
   where
     f : ℕ
     f = free (d .windows)
+
     new : getD (set (d .windows) (free (d .windows)) w) (free (d .windows)) nothing ≡ w
     new = getD-set-same (d .windows) (free (d .windows)) w nothing (let l = s .len in omega arith)
+
     kept : (m : ℕ) → getD (d .windows) m nothing .there ≡ true → getD (set (d .windows) (free (d .windows)) w) m nothing .there ≡ true
     kept m h =
         elim (cases-eq m (free (d .windows))) [ inl q ↦ rw (q, new) e | inr q ↦ ap (λ (v : Window). v .there) (getD-set-other (d .windows) (free (d .windows)) m w nothing q) ∙ h ]
+
     again : (m : ℕ) → times m (d .order ++ free (d .windows) ∷ []) ≡ pick (getD (set (d .windows) (free (d .windows)) w) m nothing .there) 1 0
     again m =
         elim (cases-eq m (free (d .windows))) [
-          inl q ↦ rw (times-append, q, times-single-same, new, e)
+          | inl q ↦ rw (times-append, q, times-single-same, new, e)
               (let o : times (free (d .windows)) (d .order) ≡ 0 = s .once (free (d .windows)) ∙ ap (λ b. pick b 1 0) (free-is (d .windows)) in omega arith)
           | inr q ↦ let a = times-append m (d .order) (free (d .windows) ∷ []) in let c = times-single-other m (free (d .windows)) q in
               let g : times m (d .order ++ free (d .windows) ∷ []) ≡ times m (d .order) = omega arith in
-              g ∙ s .once m ∙ ap (λ (v : Window). pick (v .there) 1 0) (sym (getD-set-other (d .windows) (free (d .windows)) m w nothing q)) ]
+              g ∙ s .once m ∙ ap (λ (v : Window). pick (v .there) 1 0) (sym (getD-set-other (d .windows) (free (d .windows)) m w nothing q))
+        ]
 
 -- one event
 abbrev Keeps : Sizes → Desk × List (ℕ × Word) → Type 0
@@ -178,7 +200,8 @@ same-shape z d c n w s t e o a b =
       wide-least = subst (λ k. 1 ≤ k) (sym a) (sh .wide-least);
       wide-most = subst (λ k. k ≤ z .side) (sym a) (sh .wide-most);
       high-least = subst (λ k. 1 ≤ k) (sym b) (sh .high-least);
-      high-most = subst (λ k. k ≤ z .side) (sym b) (sh .high-most) })
+      high-most = subst (λ k. k ≤ z .side) (sym b) (sh .high-most);
+    })
 
 paint-sound : (z : Sizes) (d : Desk) (c n : ℕ) (f : ℕ → ℕ → ℕ) → Sound z d → mine d c n ≡ true → Sound z (with-window d n (painted (window d n) f))
 unfolding painted
@@ -189,15 +212,15 @@ unfolding does
 does-sound z d (make c x y w h) s =
     by-pick ((ltb c (z .programs) && ltb (free (d .windows)) (z .windows)) && ((leb 1 w && leb w (z .side)) && ((leb 1 h && leb h (z .side)) && leb (area (d .windows) + w * h) (z .dots)))) _ _ (Keeps z)
     (λ t.
-      let p = and-parts (ltb c (z .programs) && ltb (free (d .windows)) (z .windows)) _ t in
-      let q = and-parts (ltb c (z .programs)) (ltb (free (d .windows)) (z .windows)) (p .0) in
-      let r = and-parts (leb 1 w && leb w (z .side)) _ (p .1) in
-      let a = and-parts (leb 1 w) (leb w (z .side)) (r .0) in
-      let u = and-parts (leb 1 h && leb h (z .side)) _ (r .1) in
-      let b = and-parts (leb 1 h) (leb h (z .side)) (u .0) in
-      make-sound z d _ s refl
-        (record { owner = ltb-true _ _ (q .0); wide-least = leb-true _ _ (a .0); wide-most = leb-true _ _ (a .1); high-least = leb-true _ _ (b .0); high-most = leb-true _ _ (b .1) })
-        (leb-true _ _ (u .1)) (ltb-true _ _ (q .1)))
+    let p = and-parts (ltb c (z .programs) && ltb (free (d .windows)) (z .windows)) _ t in
+    let q = and-parts (ltb c (z .programs)) (ltb (free (d .windows)) (z .windows)) (p .0) in
+    let r = and-parts (leb 1 w && leb w (z .side)) _ (p .1) in
+    let a = and-parts (leb 1 w) (leb w (z .side)) (r .0) in
+    let u = and-parts (leb 1 h && leb h (z .side)) _ (r .1) in
+    let b = and-parts (leb 1 h) (leb h (z .side)) (u .0) in
+    make-sound z d _ s refl
+    (record { owner = ltb-true _ _ (q .0); wide-least = leb-true _ _ (a .0); wide-most = leb-true _ _ (a .1); high-least = leb-true _ _ (b .0); high-most = leb-true _ _ (b .1) })
+    (leb-true _ _ (u .1)) (ltb-true _ _ (q .1)))
     (λ _. s)
 does-sound z d (close c n) s = by-pick (mine d c n) _ _ (Keeps z) (λ t. close-sound z d n s) (λ _. s)
 does-sound z d (move c n x y) s = by-pick (mine d c n) _ _ (Keeps z) (λ t. same-shape z d c n _ s t (sym (mine-there d c n t)) (sym (mine-owner d c n t)) refl refl) (λ _. s)

@@ -172,32 +172,34 @@ told-clip d (suc n) = pick (eqb (d .clip-of) 0) [] ((window d n .owner, pasted n
 -- what is told to a program goes with its number; refused requests change nothing
 unfoldable pub does : Sizes → Desk → Event → Desk × List (ℕ × Word)
 does z d (make c x y w h) =
-    pick ((ltb c (z .programs) && ltb (free (d .windows)) (z .windows)) && ((leb 1 w && leb w (z .side)) && ((leb 1 h && leb h (z .side)) && leb (area (d .windows) + w * h) (z .dots))))
-      (with-order (with-window d (free (d .windows)) (record { there = true; owner = c; shown = false; x = x; y = y; wide = w; high = h; dots = λ i j. 0 }))
-        (d .order ++ free (d .windows) ∷ []), (c, made (free (d .windows))) ∷ [])
-      (d, (c, no) ∷ [])
+    pick ((ltb c (z .programs) && ltb (free (d .windows)) (z .windows)) && ((leb 1 w && leb w (z .side)) && ((leb 1 h && leb h (z .side)) && leb (area (d .windows) + w * h) (z .dots)))) (
+      with-order (with-window d (free (d .windows)) (record { there = true; owner = c; shown = false; x = x; y = y; wide = w; high = h; dots = λ i j. 0 }))
+          (d .order ++ free (d .windows) ∷ []),
+      (c, made (free (d .windows))) ∷ [],
+    )
+    (d, (c, no) ∷ [])
 does z d (close c n) =
     pick (mine d c n)
-      (with-hands (with-order (with-window d n nothing) (without n (d .order))) (pick (eqb (d .keys) (suc n)) 0 (d .keys)) (pick (eqb (d .held) (suc n)) 0 (d .held)), (c, done) ∷ [])
-      (d, (c, no) ∷ [])
+    (with-hands (with-order (with-window d n nothing) (without n (d .order))) (pick (eqb (d .keys) (suc n)) 0 (d .keys)) (pick (eqb (d .held) (suc n)) 0 (d .held)), (c, done) ∷ [])
+    (d, (c, no) ∷ [])
 does z d (move c n x y) =
     pick (mine d c n)
-      (with-window d n (record { there = true; owner = c; shown = window d n .shown; x = x; y = y; wide = window d n .wide; high = window d n .high; dots = window d n .dots }), (c, done) ∷ [])
-      (d, (c, no) ∷ [])
+    (with-window d n (record { there = true; owner = c; shown = window d n .shown; x = x; y = y; wide = window d n .wide; high = window d n .high; dots = window d n .dots }), (c, done) ∷ [])
+    (d, (c, no) ∷ [])
 does z d (raise c n) = pick (mine d c n) (with-order d (without n (d .order) ++ n ∷ []), (c, done) ∷ []) (d, (c, no) ∷ [])
 does z d (show c n b) =
     pick (mine d c n)
-      (with-window d n (record { there = true; owner = c; shown = b; x = window d n .x; y = window d n .y; wide = window d n .wide; high = window d n .high; dots = window d n .dots }), (c, done) ∷ [])
-      (d, (c, no) ∷ [])
+    (with-window d n (record { there = true; owner = c; shown = b; x = window d n .x; y = window d n .y; wide = window d n .wide; high = window d n .high; dots = window d n .dots }), (c, done) ∷ [])
+    (d, (c, no) ∷ [])
 does z d (fill c n x y w h colour) =
     pick (mine d c n && box-fits (window d n) x y w h)
-      (with-window d n (painted (window d n) (λ i j. pick (in-box x y w h i j) colour (window d n .dots i j))), (c, done) ∷ []) (d, (c, no) ∷ [])
+    (with-window d n (painted (window d n) (λ i j. pick (in-box x y w h i j) colour (window d n .dots i j))), (c, done) ∷ []) (d, (c, no) ∷ [])
 does z d (put c n x y colours) =
     pick (mine d c n && box-fits (window d n) x y (length colours) 1)
-      (with-window d n (painted (window d n) (λ i j. pick (in-box x y (length colours) 1 i j) (getD colours (i - x) 0) (window d n .dots i j))), (c, done) ∷ []) (d, (c, no) ∷ [])
+    (with-window d n (painted (window d n) (λ i j. pick (in-box x y (length colours) 1 i j) (getD colours (i - x) 0) (window d n .dots i j))), (c, done) ∷ []) (d, (c, no) ∷ [])
 does z d (copy c n x y w h a b) =
     pick (mine d c n && (box-fits (window d n) x y w h && box-fits (window d n) a b w h))
-      (with-window d n (painted (window d n) (λ i j. pick (in-box a b w h i j) (window d n .dots (x + (i - a)) (y + (j - b))) (window d n .dots i j))), (c, done) ∷ []) (d, (c, no) ∷ [])
+    (with-window d n (painted (window d n) (λ i j. pick (in-box a b w h i j) (window d n .dots (x + (i - a)) (y + (j - b))) (window d n .dots i j))), (c, done) ∷ []) (d, (c, no) ∷ [])
 does z d (offer c l) =
     pick ((not (eqb (d .keys) 0) && eqb (window d (d .keys - 1) .owner) c) && leb (length l) 4096) (with-clip d (suc c) l, (c, done) ∷ []) (d, (c, no) ∷ [])
 does z d (point x y) =

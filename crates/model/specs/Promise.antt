@@ -113,7 +113,7 @@ within d paste i j = true
 unfoldable pub touched : Sizes → Desk → Event → ℕ → ℕ → Bool
 touched z d e i j =
     within d e i j && pick (same-number (subject e) (front d (d .order) (pos i) (pos j))) true
-      (same-number (subject e) (front (after z d e .0) (after z d e .0 .order) (pos i) (pos j)))
+    (same-number (subject e) (front (after z d e .0) (after z d e .0 .order) (pos i) (pos j)))
 
 -- A system is given by its start, what an event does, and what it has then sent and told
 module _ (System : Type 0) (start : Sizes → System) (happens : Sizes → System → Event → System) (sends : System → List Box) (tells : System → List (ℕ × Word)) where

@@ -34,31 +34,35 @@ row-A =
     record {
       events = make 0 (pos 0) (pos 0) 3 2 ∷ show 0 0 true ∷ fill 0 0 0 0 3 2 1 ∷ [];
       seen = (1 ∷ 1 ∷ 1 ∷ 0 ∷ 0 ∷ 0 ∷ []) ∷ (1 ∷ 1 ∷ 1 ∷ 0 ∷ 0 ∷ 0 ∷ []) ∷ [];
-      words = (0, made 0) ∷ (0, done) ∷ (0, done) ∷ [] }
+      words = (0, made 0) ∷ (0, done) ∷ (0, done) ∷ [];
+    }
 
 abbrev pub row-B : Row
 row-B =
     record {
       events =
-        make 0 (pos 0) (pos 0) 4 2 ∷ show 0 0 true ∷ fill 0 0 0 0 4 2 1 ∷ make 1 (pos 2) (pos 1) 4 1 ∷ show 1 1 true ∷ fill 1 1 0 0 4 1 2 ∷ raise 0 0 ∷ [];
+          make 0 (pos 0) (pos 0) 4 2 ∷ show 0 0 true ∷ fill 0 0 0 0 4 2 1 ∷ make 1 (pos 2) (pos 1) 4 1 ∷ show 1 1 true ∷ fill 1 1 0 0 4 1 2 ∷ raise 0 0 ∷ [];
       seen = (1 ∷ 1 ∷ 1 ∷ 1 ∷ 0 ∷ 0 ∷ []) ∷ (1 ∷ 1 ∷ 1 ∷ 1 ∷ 2 ∷ 2 ∷ []) ∷ [];
-      words = (0, made 0) ∷ (0, done) ∷ (0, done) ∷ (1, made 1) ∷ (1, done) ∷ (1, done) ∷ (0, done) ∷ [] }
+      words = (0, made 0) ∷ (0, done) ∷ (0, done) ∷ (1, made 1) ∷ (1, done) ∷ (1, done) ∷ (0, done) ∷ [];
+    }
 
 abbrev pub row-C : Row
 row-C =
     record {
       events =
-        make 0 (negsuc 0) (pos 0) 3 1 ∷ show 0 0 true ∷ put 0 0 0 0 (7 ∷ 8 ∷ 9 ∷ []) ∷ point (pos 0) (pos 0) ∷ press true ∷ key 65 ∷ point (pos 9) (pos 9) ∷ press false ∷ key 66 ∷ [];
+          make 0 (negsuc 0) (pos 0) 3 1 ∷ show 0 0 true ∷ put 0 0 0 0 (7 ∷ 8 ∷ 9 ∷ []) ∷ point (pos 0) (pos 0) ∷ press true ∷ key 65 ∷ point (pos 9) (pos 9) ∷ press false ∷ key 66 ∷ [];
       seen = (8 ∷ 9 ∷ 0 ∷ 0 ∷ 0 ∷ 0 ∷ []) ∷ black ∷ [];
       words =
-        (0, made 0) ∷ (0, done) ∷ (0, done) ∷ (0, at 0 (pos 1) (pos 0)) ∷ (0, pressed 0 true) ∷ (0, typed 0 65) ∷ (0, at 0 (pos 6) (pos 1)) ∷ (0, pressed 0 false) ∷ (0, typed 0 66) ∷ [] }
+          (0, made 0) ∷ (0, done) ∷ (0, done) ∷ (0, at 0 (pos 1) (pos 0)) ∷ (0, pressed 0 true) ∷ (0, typed 0 65) ∷ (0, at 0 (pos 6) (pos 1)) ∷ (0, pressed 0 false) ∷ (0, typed 0 66) ∷ [];
+    }
 
 abbrev pub row-F : Row
 row-F =
     record {
       events = make 0 (pos 0) (pos 0) 7 1 ∷ make 0 (pos 0) (pos 0) 3 1 ∷ show 0 0 true ∷ fill 1 0 0 0 1 1 5 ∷ fill 0 0 2 0 2 1 5 ∷ [];
       seen = black ∷ black ∷ [];
-      words = (0, no) ∷ (0, made 0) ∷ (0, done) ∷ (1, no) ∷ (0, no) ∷ [] }
+      words = (0, no) ∷ (0, made 0) ∷ (0, done) ∷ (1, no) ∷ (0, no) ∷ [];
+    }
 
 abbrev pub table : List Row
 table = row-A ∷ row-B ∷ row-C ∷ row-F ∷ []

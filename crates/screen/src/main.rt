@@ -27,7 +27,9 @@ fn sizes(words: &[String]) -> Option<Sizes> {
 }
 
 fn run(rt: &LibcRuntime) -> Result<(), AnyError> {
-    let words = std::env::args(rt)?.skip(1).collect::<Vec<String>>(rt.alloc())?;
+    let words = std::env::args(rt)?
+        .skip(1)
+        .collect::<Vec<String>>(rt.alloc())?;
     let Some(z) = sizes(words.as_slice()) else {
         return Err("usage: screen ACROSS DOWN WINDOWS PROGRAMS SIDE DOTS < EVENTS".into());
     };

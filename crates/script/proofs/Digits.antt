@@ -68,7 +68,7 @@ pub plain-hex : (most : ℕ) (w rest : List ℕ) (n : ℕ) → n ≡ 2 → w ≡
 unfolding plain-number
 plain-hex most w rest n two e r =
     subst (λ b. in-base 16 most rest ≡ pick b (in-base 16 most (drop 2 w)) (in-base 10 most w)) (sym (hex-yes w (drop n w) e))
-      (ap (in-base 16 most) (r ∙ ap (λ k. drop k w) two))
+    (ap (in-base 16 most) (r ∙ ap (λ k. drop k w) two))
 
 pub plain-decimal : (most : ℕ) (w : List ℕ) → ((rest : List ℕ) → w ≡ codes "0x" ++ rest → ⊥) → in-base 10 most w ≡ plain-number most w
 unfolding plain-number

@@ -44,13 +44,13 @@ mapped-before g b None = refl
 mapped-before g b (Some x) = refl
 
 said-bytes : (fs : List fields.Field) (m : From fs desk.Event) (g : List ℕ → List ℕ) → Agrees fs m (spelled fs g) → (ws : List (List ℕ))
-  → mapped encode (fields-say fs m ws) ≡ mapped g (say-bytes fs ws)
+    → mapped encode (fields-say fs m ws) ≡ mapped g (say-bytes fs ws)
 said-bytes [] m g a [] = ap (λ x. Some x) a
 said-bytes [] m g a (w ∷ ws) = refl
 said-bytes (f ∷ fs) m g a ws = by (first-field f ws) (λ v ws. said-bytes fs (m v) (λ rest. g (spell f v ++ rest)) (a v) ws)
   where
     by : (o : Option (Says f × List (List ℕ))) → ((v : Says f) (ws : List (List ℕ)) → mapped encode (fields-say fs (m v) ws) ≡ mapped (λ rest. g (spell f v ++ rest)) (say-bytes fs ws))
-      → mapped encode (and-then o (λ p. fields-say fs (m (p .0)) (p .1))) ≡ mapped g (and-then o (λ p. before (spell f (p .0)) (say-bytes fs (p .1))))
+        → mapped encode (and-then o (λ p. fields-say fs (m (p .0)) (p .1))) ≡ mapped g (and-then o (λ p. before (spell f (p .0)) (say-bytes fs (p .1))))
     by None h = refl
     by (Some p) h = h (p .0) (p .1) ∙ mapped-before g (spell f (p .0)) (say-bytes fs (p .1))
 
@@ -114,7 +114,7 @@ base-bound : (base most : ℕ) (ds : List ℕ) → found (in-base base most ds) 
 unfolding in-base
 base-bound base most ds =
     found-pick (λ n. n ≤ most) (ltb 0 (length ds) && (numerals.all-digits base ds && leb (value base ds) most)) (Some (value base ds)) None
-      (λ e. leb-true _ _ (and-parts (numerals.all-digits base ds) (leb (value base ds) most) (and-parts (ltb 0 (length ds)) (numerals.all-digits base ds && leb (value base ds) most) e .1) .1)) tt
+    (λ e. leb-true _ _ (and-parts (numerals.all-digits base ds) (leb (value base ds) most) (and-parts (ltb 0 (length ds)) (numerals.all-digits base ds && leb (value base ds) most) e .1) .1)) tt
 
 plain-bound : (most : ℕ) (w : List ℕ) → found (plain-number most w) (λ n. n ≤ most)
 unfolding plain-number
@@ -144,7 +144,7 @@ weaker-bound None m n l h = tt
 weaker-bound (Some v) m n l h = omega arith
 
 first-bytes : (f : Field) (w : List ℕ) (ws : List (List ℕ)) (next : List (List ℕ) → Option (List ℕ))
-  → and-then (first-field (field-of f) (w ∷ ws)) (λ p. before (spell (field-of f) (p .0)) (next (p .1))) ≡ and-then (word-bytes f w) (λ bs. before bs (next ws))
+    → and-then (first-field (field-of f) (w ∷ ws)) (λ p. before (spell (field-of f) (p .0)) (next (p .1))) ≡ and-then (word-bytes f w) (λ bs. before bs (next ws))
 unfolding near-bytes mark-number
 first-bytes Program w ws next = as-byte ws next (plain-number 63 w) (weaker-bound _ 63 255 (omega arith) (plain-bound 63 w))
 first-bytes Byte w ws next = as-byte ws next (plain-number 255 w) (plain-bound 255 w)
@@ -163,13 +163,13 @@ no-word Mark next = refl
 
 -- Several words, and what follows them.
 joined : (o : Option (List ℕ)) (x t : Option (List ℕ))
-  → and-then o (λ a. before a (and-then x (λ b. before b t))) ≡ and-then (and-then o (λ a. before a x)) (λ b. before b t)
+    → and-then o (λ a. before a (and-then x (λ b. before b t))) ≡ and-then (and-then o (λ a. before a x)) (λ b. before b t)
 joined None x t = refl
 joined (Some a) None t = refl
 joined (Some a) (Some b) t = before-before a b t
 
 words-enough : (fs : List Field) (tail : List fields.Field) (ws : List (List ℕ)) → length fs ≤ length ws
-  → say-bytes (map field-of fs ++ tail) ws ≡ and-then (each-bytes fs (take (length fs) ws)) (λ bs. before bs (say-bytes tail (drop (length fs) ws)))
+    → say-bytes (map field-of fs ++ tail) ws ≡ and-then (each-bytes fs (take (length fs) ws)) (λ bs. before bs (say-bytes tail (drop (length fs) ws)))
 words-enough [] tail ws h = before-nil (say-bytes tail ws)
 words-enough (f ∷ fs) tail [] h = absurd (omega arith)
 words-enough (f ∷ fs) tail (w ∷ ws) h =
@@ -198,7 +198,7 @@ all-said f most h [] = refl
 all-said f most h (w ∷ ws) = rw (h w, all-said f most h ws) (by (plain-number most w) (each-number most ws))
   where
     by : (o : Option ℕ) (x : Option (List ℕ))
-      → and-then (mapped (digits (row-width f)) o) (λ bs. before bs (mapped (all-digits (row-width f)) x)) ≡ mapped (all-digits (row-width f)) (and-then o (λ v. mapped (λ vs. v ∷ vs) x))
+        → and-then (mapped (digits (row-width f)) o) (λ bs. before bs (mapped (all-digits (row-width f)) x)) ≡ mapped (all-digits (row-width f)) (and-then o (λ v. mapped (λ vs. v ∷ vs) x))
     by None x = refl
     by (Some v) None = refl
     by (Some v) (Some vs) = refl
@@ -217,7 +217,7 @@ unfolding row-numbers row-bytes
 row-said f most h e ws = rw (e, all-said f most h ws) (by (ltb (length ws) 65536) (each-number most ws) (as-many most ws))
   where
     by : (t : Bool) (x : Option (List ℕ)) → found x (λ vs. length vs ≡ length ws)
-      → and-then {A = List ℕ × List (List ℕ)} (mapped (λ vs. (vs, [])) (pick t x None)) (λ p. before (digits 2 (length (p .0)) ++ all-digits (row-width f) (p .0)) (no-more [] (p .1)))
+        → and-then {A = List ℕ × List (List ℕ)} (mapped (λ vs. (vs, [])) (pick t x None)) (λ p. before (digits 2 (length (p .0)) ++ all-digits (row-width f) (p .0)) (no-more [] (p .1)))
         ≡ pick t (before (digits 2 (length ws)) (mapped (all-digits (row-width f)) x)) None
     by false x g = refl
     by true None g = refl
@@ -247,7 +247,7 @@ event-said k ws =
     ∙ by (leb (length (fields-of k)) (length ws)) refl
   where
     by : (t : Bool) → leb (length (fields-of k)) (length ws) ≡ t → mapped (λ r. number-of k ∷ r) (say-bytes (map field-of (fields-of k) ++ row-fields (row-of k)) ws)
-      ≡ pick t (before (number-of k ∷ []) (and-then (each-bytes (fields-of k) (take (length (fields-of k)) ws)) (λ bs. before bs (rest-bytes (row-of k) (drop (length (fields-of k)) ws))))) None
+        ≡ pick t (before (number-of k ∷ []) (and-then (each-bytes (fields-of k) (take (length (fields-of k)) ws)) (λ bs. before bs (rest-bytes (row-of k) (drop (length (fields-of k)) ws))))) None
     by true e =
         ap (mapped (λ r. number-of k ∷ r)) (words-enough (fields-of k) (row-fields (row-of k)) ws (leb-true _ _ e)
         ∙ ap (λ o. and-then (each-bytes (fields-of k) (take (length (fields-of k)) ws)) (λ bs. before bs o)) (rest-said k (drop (length (fields-of k)) ws)))

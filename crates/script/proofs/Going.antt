@@ -54,11 +54,11 @@ going-by e g = record { done = g .done; items = g .items; rest = g .rest ∙ ap 
 
 -- one more part is put
 pub going-put : {all : Option (List ℕ)} {old new : List ℕ} (said : Option (List ℕ)) (new′ : List ℕ) (left : Option (List ℕ)) (u : Unit {0})
-  → Going all (and-then said (λ bs. before bs left)) old new → Puts said new new′ (Ok u) → Going all left old new′
+    → Going all (and-then said (λ bs. before bs left)) old new → Puts said new new′ (Ok u) → Going all left old new′
 going-put said new′ left u g p = going-more (p .0) new′ left (going-by (ap (λ o. and-then o (λ bs. before bs left)) (p .1)) g) (p .2)
 
 pub going-stop : {all : Option (List ℕ)} {old new : List ℕ} (said : Option (List ℕ)) (next : List ℕ → Option (List ℕ)) (p : Problem)
-  → Going all (and-then said next) old new → Blames p (said ≡ None) → Blames p (all ≡ None)
+    → Going all (and-then said next) old new → Blames p (said ≡ None) → Blames p (all ≡ None)
 going-stop said next p g h = blames p (λ e. g .rest ∙ ap (λ o. before (g .done) (and-then o next)) e) h
 
 pub going-end : {all : Option (List ℕ)} {old new : List ℕ} (u : Unit {0}) → Going all (Some []) old new → Puts all old new (Ok u)

@@ -20,14 +20,14 @@ use Rattle.script.specs.Sentences.{and-then, texts}
 use Rattle.script.specs.Tables.{before, word-bytes, each-bytes, all-bytes, row-bytes, rest-bytes, event-bytes, number-of, fields-of, row-of}
 
 pub all-more : (f : Field) (ws : List (RefT (List ℕ))) (i : ℕ) (d : RefT (List ℕ)) → i < length ws
-  → all-bytes f (texts (drop i ws)) ≡ and-then (word-bytes f (getD ws i d .now)) (λ bs. before bs (all-bytes f (texts (drop (i + 1) ws))))
+    → all-bytes f (texts (drop i ws)) ≡ and-then (word-bytes f (getD ws i d .now)) (λ bs. before bs (all-bytes f (texts (drop (i + 1) ws))))
 all-more f ws i d h = rw (add-one, drop-cons ws i d h)
 
 pub all-end : (f : Field) (ws : List (RefT (List ℕ))) (i : ℕ) → length ws ≤ i → all-bytes f (texts (drop i ws)) ≡ Some []
 all-end f ws i h = rw (drop-all i ws h)
 
 pub each-more : (fs : List Field) (ws : List (RefT (List ℕ))) (i : ℕ) (e : Field) (d : RefT (List ℕ)) → i < length fs → i < length ws
-  → each-bytes (drop i fs) (texts (drop i ws)) ≡ and-then (word-bytes (getD fs i e) (getD ws i d .now)) (λ bs. before bs (each-bytes (drop (i + 1) fs) (texts (drop (i + 1) ws))))
+    → each-bytes (drop i fs) (texts (drop i ws)) ≡ and-then (word-bytes (getD fs i e) (getD ws i d .now)) (λ bs. before bs (each-bytes (drop (i + 1) fs) (texts (drop (i + 1) ws))))
 each-more fs ws i e d g h = rw (add-one, drop-cons ws i d h, drop-cons fs i e g)
 
 pub each-end : (fs : List Field) (ws : List (RefT (List ℕ))) (i : ℕ) → length fs ≤ i → each-bytes (drop i fs) (texts (drop i ws)) ≡ Some []
@@ -65,7 +65,7 @@ event-few k ws h =
 
 -- enough of them: the kind, the fields and the rest, one after another
 pub event-parts : (k : Kind) (fs : List Field) (ws : List (RefT (List ℕ))) → fs ≡ fields-of k → length fs ≤ length ws
-  → event-bytes k (texts ws) ≡ before (number-of k ∷ []) (and-then (each-bytes fs (texts (take (length fs - 0) ws))) (λ bs. before bs (rest-bytes (row-of k) (texts (take (length ws - length fs) (drop (length fs) ws))))))
+    → event-bytes k (texts ws) ≡ before (number-of k ∷ []) (and-then (each-bytes fs (texts (take (length fs - 0) ws))) (λ bs. before bs (rest-bytes (row-of k) (texts (take (length ws - length fs) (drop (length fs) ws))))))
 unfolding event-bytes
 event-parts k fs ws e h =
     let n : length (texts ws) ≡ length ws = length-map ws (λ w. w .now) in

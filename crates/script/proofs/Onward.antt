@@ -42,7 +42,7 @@ ends-more n m l v = omega arith
 field-on : (f : Field) (p : ℕ) (bs : List ℕ) (k o : ℕ) → Onward o (field f p bs k o)
 field-on program p bs k o =
     there-on o bs (k + (o + 1)) (pick (ltb (getD bs (k + o) 0) p) (Ok (getD bs (k + o) 0, o + 1)) (Err (k + o)))
-      (picked o (ltb (getD bs (k + o) 0) p) (Ok (getD bs (k + o) 0, o + 1)) (Err (k + o)) (ends o 1 (getD bs (k + o) 0)) tt)
+    (picked o (ltb (getD bs (k + o) 0) p) (Ok (getD bs (k + o) 0, o + 1)) (Err (k + o)) (ends o 1 (getD bs (k + o) 0)) tt)
 field-on byte p bs k o = there-on o bs (k + (o + 1)) (Ok (getD bs (k + o) 0, o + 1)) (ends o 1 (getD bs (k + o) 0))
 field-on (plain w) p bs k o = there-on o bs (k + (o + w)) (Ok (number w (drop (k + o) bs), o + w)) (ends o w (number w (drop (k + o) bs)))
 field-on near p bs k o =
@@ -52,8 +52,8 @@ field-on far p bs k o =
 field-on mark p bs k o =
     let b = getD bs (k + o) 0 in
     there-on o bs (k + (o + 1)) (pick (eqb b 0) (Ok (false, o + 1)) (pick (eqb b 1) (Ok (true, o + 1)) (Err (k + o))))
-      (picked o (eqb b 0) (Ok (false, o + 1)) (pick (eqb b 1) (Ok (true, o + 1)) (Err (k + o))) (ends o 1 false)
-        (picked o (eqb b 1) (Ok (true, o + 1)) (Err (k + o)) (ends o 1 true) tt))
+    (picked o (eqb b 0) (Ok (false, o + 1)) (pick (eqb b 1) (Ok (true, o + 1)) (Err (k + o))) (ends o 1 false)
+    (picked o (eqb b 1) (Ok (true, o + 1)) (Err (k + o)) (ends o 1 true) tt))
 field-on (only c) p bs k o =
     let b = getD bs (k + o) 0 in
     there-on o bs (k + (o + 1)) (pick (eqb b c) (Ok (tt {0}, o + 1)) (Err (k + o))) (picked o (eqb b c) (Ok (tt {0}, o + 1)) (Err (k + o)) (ends o 1 (tt {0})) (tt {0}))
@@ -61,7 +61,7 @@ field-on (row w) p bs k o =
     let n = number 2 (drop (k + o) bs) in
     let vs = numbers w n (drop (k + (o + 2)) bs) in
     there-on o bs (k + (o + 2)) (there bs (k + (o + 2 + w * n)) (Ok (vs, o + 2 + w * n)))
-      (there-on o bs (k + (o + 2 + w * n)) (Ok (vs, o + 2 + w * n)) (ends-more o 2 (w * n) vs))
+    (there-on o bs (k + (o + 2 + w * n)) (Ok (vs, o + 2 + w * n)) (ends-more o 2 (w * n) vs))
 
 then-on : {A B : Type 0} (k o : ℕ) (r : Found A) (g : A → ℕ → Found B) → Onward o r → ((v : A) (to : ℕ) → Onward (k + to) (g v to)) → Onward (k + o) (then r g)
 then-on k o (Ok q) g h f = weaker (k + o) (k + q .1) (omega arith) _ (f (q .0) (q .1))
@@ -76,8 +76,8 @@ event-on built p bs k =
     let q = getD bs k 0 in
     let kind : Found desk.Event = pick (ltb q 13 && built q) (decode-kind q p bs k) (Err k) in
     picked (k + 1) (leb 4294967296 (length bs)) (Err 4294967295) (decode-event built p bs k) tt
-      (there-on (k + 1) bs (k + 1) kind
-        (picked (k + 1) (ltb q 13 && built q) (decode-kind q p bs k) (Err k) (decode-on (event-format q .fields) (event-format q .says) p bs k 1) tt))
+    (there-on (k + 1) bs (k + 1) kind
+    (picked (k + 1) (ltb q 13 && built q) (decode-kind q p bs k) (Err k) (decode-on (event-format q .fields) (event-format q .says) p bs k 1) tt))
 
 pub read-on : (bs : List ℕ) (r : Result (Event × ℕ) Fault) (built : ℕ → Bool) (p k : ℕ) → said bs r ≡ read-event built p bs k → made r (λ q. k < q .1)
 read-on bs (Ok q) built p k h = let l : k + 1 ≤ q .1 = subst (Onward (k + 1)) (sym h) (event-on built p bs k) in omega arith

@@ -60,7 +60,7 @@ pub first-of : (bs w rest : List ℕ) → (gap : List ℕ) × (bs ≡ gap ++ (w 
 first-of bs w rest cut = record { gap = cut .0; cut = cut .1; some = cut .2; blank = cut .3; solid = cut .4; ends = cut .5 }
 
 pub word-more : (text rest next : List ℕ) (seen : List (RefT (List ℕ))) (w : RefT (List ℕ)) (new : List (RefT (List ℕ)))
-  → Before-words text rest (texts seen) → First-word rest (w .now) next → new ≡ seen ++ (w ∷ []) → Before-words text next (texts new)
+    → Before-words text rest (texts seen) → First-word rest (w .now) next → new ≡ seen ++ (w ∷ []) → Before-words text next (texts new)
 word-more text rest next seen w new h first e = λ ws k.
     let m : texts new ≡ texts seen ++ (w .now ∷ []) = ap texts e ∙ map-append (λ (x : RefT (List ℕ)). x .now) seen (w ∷ []) in
     subst (Words text) (sym (append-assoc (texts seen) (w .now ∷ []) ws) ∙ ap (λ l. l ++ ws) (sym m)) (h (w .now ∷ ws) (next, first, k))
@@ -74,7 +74,7 @@ sentence-none [] e = refl
 sentence-none (w ∷ ws) e = absurd (omega arith)
 
 pub sentence-named : (all : List (RefT (List ℕ))) (name : RefT (List ℕ)) (ws : List (RefT (List ℕ))) (k : Kind) → all ≡ name ∷ ws → Some k ≡ kind-of (name .now)
-  → mapped encode-all (sentence (texts all)) ≡ mapped encode (kind-says (number-of k) (texts ws))
+    → mapped encode-all (sentence (texts all)) ≡ mapped encode (kind-says (number-of k) (texts ws))
 sentence-named all name ws k e n =
     ap (λ l. mapped encode-all (sentence (texts l))) e
     ∙ ap (λ o. mapped encode-all (and-then o (λ j. mapped (λ e. e ∷ []) (kind-says (number-of j) (texts ws))))) (sym n)

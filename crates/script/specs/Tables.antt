@@ -99,5 +99,5 @@ rest-bytes (Some f) ws = row-bytes f ws
 unfoldable pub event-bytes : Kind → List (List ℕ) → Option (List ℕ)
 event-bytes k ws =
     pick (leb (length (fields-of k)) (length ws))
-      (before (number-of k ∷ []) (and-then (each-bytes (fields-of k) (take (length (fields-of k)) ws)) (λ bs. before bs (rest-bytes (row-of k) (drop (length (fields-of k)) ws)))))
-      None
+    (before (number-of k ∷ []) (and-then (each-bytes (fields-of k) (take (length (fields-of k)) ws)) (λ bs. before bs (rest-bytes (row-of k) (drop (length (fields-of k)) ws)))))
+    None

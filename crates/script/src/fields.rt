@@ -25,7 +25,12 @@ pub fn add<'a>(out: &mut Vec<u8>, bytes: &[u8]) -> Result<(), Problem<'a>>
 }
 
 // A number without sign, in so many bytes.
-fn put_plain<'a>(word: &'a str, high: u32, width: usize, out: &mut Vec<u8>) -> Result<(), Problem<'a>>
+fn put_plain<'a>(
+    word: &'a str,
+    high: u32,
+    width: usize,
+    out: &mut Vec<u8>,
+) -> Result<(), Problem<'a>>
     requires { ⌜ width ≤ 4 ⌝ }
     ensures { λ r. ⌜ Puts (mapped (digits width) (plain-number high (now (word .entry)))) (vec-items (now (out .entry))) (vec-items (now (out .exit))) r ⌝ }
 {
@@ -49,7 +54,11 @@ fn put_signed<'a>(word: &'a str, out: &mut Vec<u8>) -> Result<(), Problem<'a>>
 {
     match signed(word) {
         Some(n) => add(out, &bits(n).to_le_bytes()),
-        None => Err(Problem::Number { word, low: -32768, high: 32767 }),
+        None => Err(Problem::Number {
+            word,
+            low: -32768,
+            high: 32767,
+        }),
     }
 }
 

@@ -43,7 +43,10 @@ fn to_text(rt: &LibcRuntime) -> io::Result<()> {
     match description.fault {
         Some(fault) => {
             let place = fault.place;
-            fail(rt, format_args!("byte {place}: no event can go on like this"))
+            fail(
+                rt,
+                format_args!("byte {place}: no event can go on like this"),
+            )
         }
         None => Ok(()),
     }

@@ -25,7 +25,10 @@ pub impl<'a> fmt::Display for Problem<'a> as ProblemDisplay {
                 let wants = kind.wants();
                 write!(f, "{name} wants {wants}")
             }
-            Problem::Number { word, low, high } => write!(f, "'{word}' is no number from {low} to {high}"),
+            Problem::Number { word, low, high } => write!(
+                f,
+                "'{word}' is no number from {low} to {high}"
+            ),
             Problem::Long { kind } => {
                 let name = kind.name();
                 write!(f, "{name} takes a row of at most 65535 numbers")
@@ -35,4 +38,5 @@ pub impl<'a> fmt::Display for Problem<'a> as ProblemDisplay {
     }
 }
 
-const KINDS: &str = "make, close, move, raise, show, fill, put, copy, offer, point, press, key or paste";
+const KINDS: &str =
+    "make, close, move, raise, show, fill, put, copy, offer, point, press, key or paste";

@@ -11,7 +11,11 @@ use crate::kinds::Kind;
 use crate::problem::Problem;
 
 // Each word as its field.
-pub fn put_fields<'a>(fields: &[Field], words: &[&'a str], out: &mut Vec<u8>) -> Result<(), Problem<'a>>
+pub fn put_fields<'a>(
+    fields: &[Field],
+    words: &[&'a str],
+    out: &mut Vec<u8>,
+) -> Result<(), Problem<'a>>
     requires { ⌜ length (now fields) ≡ length (now words) ⌝ }
     ensures { λ r. ⌜ Puts (each-bytes (now (fields .entry)) (texts (now (words .entry)))) (vec-items (now (out .entry))) (vec-items (now (out .exit))) r ⌝ }
 {
@@ -32,7 +36,12 @@ fn put_all<'a>(field: Field, words: &[&'a str], out: &mut Vec<u8>) -> Result<(),
 }
 
 // A row: how many there are, and then each.
-pub fn put_row<'a>(kind: Kind, element: Field, words: &[&'a str], out: &mut Vec<u8>) -> Result<(), Problem<'a>>
+pub fn put_row<'a>(
+    kind: Kind,
+    element: Field,
+    words: &[&'a str],
+    out: &mut Vec<u8>,
+) -> Result<(), Problem<'a>>
     ensures { λ r. ⌜ Puts (row-bytes element (texts (now (words .entry)))) (vec-items (now (out .entry))) (vec-items (now (out .exit))) r ⌝ }
 {
     if words.len() > 65535 {

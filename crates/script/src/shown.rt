@@ -40,21 +40,65 @@ fn cut<'a>(source: &'a [u8], from: usize, size: usize) -> &'a [u8]
 pub impl<'a> fmt::Display for Shown<'a> as ShownDisplay {
     fn fmt<W: fmt::Write>(&self, f: &mut fmt::Formatter<W>) -> fmt::Result {
         match self.event {
-            Event::Make { program, x, y, wide, high } => write!(f, "make {program} {x} {y} {wide} {high}"),
+            Event::Make {
+                program,
+                x,
+                y,
+                wide,
+                high,
+            } => write!(f, "make {program} {x} {y} {wide} {high}"),
             Event::Close { program, window } => write!(f, "close {program} {window}"),
-            Event::Move { program, window, x, y } => write!(f, "move {program} {window} {x} {y}"),
+            Event::Move {
+                program,
+                window,
+                x,
+                y,
+            } => write!(f, "move {program} {window} {x} {y}"),
             Event::Raise { program, window } => write!(f, "raise {program} {window}"),
-            Event::Show { program, window, on } => {
+            Event::Show {
+                program,
+                window,
+                on,
+            } => {
                 let mark = on as u8;
                 write!(f, "show {program} {window} {mark}")
             }
-            Event::Fill { program, window, x, y, wide, high, colour } => write!(f, "fill {program} {window} {x} {y} {wide} {high} {colour}"),
-            Event::Put { program, window, x, y, colours } => {
+            Event::Fill {
+                program,
+                window,
+                x,
+                y,
+                wide,
+                high,
+                colour,
+            } => write!(f, "fill {program} {window} {x} {y} {wide} {high} {colour}"),
+            Event::Put {
+                program,
+                window,
+                x,
+                y,
+                colours,
+            } => {
                 write!(f, "put {program} {window} {x} {y}")?;
-                show_colours(cut(self.source, colours.from, 4 * colours.count as usize), f)
+                show_colours(
+                    cut(self.source, colours.from, 4 * colours.count as usize),
+                    f,
+                )
             }
-            Event::Copy { program, window, x, y, wide, high, to_x, to_y } => {
-                write!(f, "copy {program} {window} {x} {y} {wide} {high} {to_x} {to_y}")
+            Event::Copy {
+                program,
+                window,
+                x,
+                y,
+                wide,
+                high,
+                to_x,
+                to_y,
+            } => {
+                write!(
+                    f,
+                    "copy {program} {window} {x} {y} {wide} {high} {to_x} {to_y}"
+                )
             }
             Event::Offer { program, bytes } => {
                 write!(f, "offer {program}")?;
@@ -97,6 +141,7 @@ pub struct Description {
 
 // All kinds of events, and as many programs as there can be.
 const KINDS: Kinds = Kinds { built: [true; 13] };
+
 const PROGRAMS: u8 = 255;
 
 // The event at a place, and where it ends, which is behind its place.
@@ -116,12 +161,18 @@ pub fn describe(heap: Global, bytes: &[u8]) -> Result<Description, AllocError>
     while at < bytes.len() {
         match next_event(bytes, at, PROGRAMS, KINDS) {
             Ok((event, end)) => {
-                let shown = Shown { event, source: bytes };
+                let shown = Shown {
+                    event,
+                    source: bytes,
+                };
                 let line = format!(heap, "{shown}\n")?;
                 text.push_str(line.as_str())?;
                 at = end;
             }
-            Err(fault) => return Ok(Description { text, fault: Some(fault) }),
+            Err(fault) => return Ok(Description {
+                text,
+                fault: Some(fault),
+            }),
         }
     }
     Ok(Description { text, fault: None })

@@ -46,10 +46,16 @@ fn text_comes_back(rt: LibcRuntime) -> Result<(), Fail> {
 
 #[test]
 fn forms_are_free(rt: LibcRuntime) -> Result<(), Fail> {
-    let Ok(bytes) = convert(rt.alloc(), "# none\n\n \tpoint  0x7FFF -0x8000#here\r\n key 0xa") else {
+    let Ok(bytes) = convert(
+        rt.alloc(),
+        "# none\n\n \tpoint  0x7FFF -0x8000#here\r\n key 0xa",
+    ) else {
         return Err(Fail::new("a line is refused"));
     };
-    check_eq(bytes.as_slice(), b"\x09\xff\x7f\x00\x80\x0b\x0a\x00\x00\x00".as_slice())
+    check_eq(
+        bytes.as_slice(),
+        b"\x09\xff\x7f\x00\x80\x0b\x0a\x00\x00\x00".as_slice(),
+    )
 }
 
 // What is said of a text that is refused.
@@ -63,18 +69,39 @@ fn refusal_of(heap: Global, text: &str) -> Result<String, AllocError> {
 #[test]
 fn lines_are_refused(rt: LibcRuntime) -> Result<(), Fail> {
     let cases = [
-        ("paste\n\nshow 0 0", "line 3: show wants 3 fields: program window mark"),
-        ("show 0 0 1 1", "line 1: show wants 3 fields: program window mark"),
-        ("put 0 0 0", "line 1: put wants 4 fields or more: program window x y colours.."),
+        (
+            "paste\n\nshow 0 0",
+            "line 3: show wants 3 fields: program window mark",
+        ),
+        (
+            "show 0 0 1 1",
+            "line 1: show wants 3 fields: program window mark",
+        ),
+        (
+            "put 0 0 0",
+            "line 1: put wants 4 fields or more: program window x y colours..",
+        ),
         ("paste 1", "line 1: paste wants no fields"),
         ("close 0 x", "line 1: 'x' is no number from 0 to 255"),
         ("close 64 0", "line 1: '64' is no number from 0 to 63"),
         ("press 2", "line 1: '2' is no number from 0 to 1"),
-        ("point -32769 0", "line 1: '-32769' is no number from -32768 to 32767"),
-        ("point 0 32768", "line 1: '32768' is no number from -32768 to 32767"),
-        ("key 4294967296", "line 1: '4294967296' is no number from 0 to 4294967295"),
+        (
+            "point -32769 0",
+            "line 1: '-32769' is no number from -32768 to 32767",
+        ),
+        (
+            "point 0 32768",
+            "line 1: '32768' is no number from -32768 to 32767",
+        ),
+        (
+            "key 4294967296",
+            "line 1: '4294967296' is no number from 0 to 4294967295",
+        ),
         ("key +1", "line 1: '+1' is no number from 0 to 4294967295"),
-        ("make 0 0 0 65536 1", "line 1: '65536' is no number from 0 to 65535"),
+        (
+            "make 0 0 0 65536 1",
+            "line 1: '65536' is no number from 0 to 65535",
+        ),
     ];
     for (text, message) in cases {
         let said = refusal_of(rt.alloc(), text)?;

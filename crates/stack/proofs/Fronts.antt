@@ -40,8 +40,8 @@ unfolding front
 front-in d [] x y n e = absurd (omega arith)
 front-in d (m ∷ ms) x y n e =
     elim (cases-eq (front d ms x y) 0) [
-      inl z ↦ go (in-window (window d m) x y) refl (rw (eq-eqb (front d ms x y) 0 z) at e)
-    | inr ne ↦ front-in d ms x y n (rw (ne-eqb (front d ms x y) 0 ne) at e)
+      | inl z ↦ go (in-window (window d m) x y) refl (rw (eq-eqb (front d ms x y) 0 z) at e)
+      | inr ne ↦ front-in d ms x y n (rw (ne-eqb (front d ms x y) 0 ne) at e)
     ]
   where
     go : (b : Bool) → in-window (window d m) x y ≡ b → pick b (suc m) 0 ≡ suc n → in-window (window d n) x y ≡ true

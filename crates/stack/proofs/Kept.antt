@@ -36,8 +36,11 @@ kept-skip n i j old new h k e =
     let g = same-at i old new (k .ahead) in
     let t : eqb n (getD old i 0) ≡ true = eq-eqb _ _ (omega arith) in
     record {
-      few = omega arith; long = k .long; ahead = ahead-more i old new (k .ahead);
-      behind = rw (take-more old i 0 h, without-push, t) (k .behind) }
+      few = omega arith;
+      long = k .long;
+      ahead = ahead-more i old new (k .ahead);
+      behind = rw (take-more old i 0 h, without-push, t) (k .behind);
+    }
 
 pub kept-more : (n i j : ℕ) (old new : List ℕ) → i < length old → Kept n i j old new → (getD new i 0 ≡ n → ⊥) → Kept n (i + 1) (j + 1) old (set new j (getD new i 0))
 kept-more n i j old new h k e =
@@ -46,5 +49,8 @@ kept-more n i j old new h k e =
     let s : j < i + 1 = omega (arith, k .few) in
     let l : j < length new = omega (arith, k .few, k .long) in
     record {
-      few = omega arith; long = length-set new j _ ∙ k .long; ahead = drop-set-lt (i + 1) new j _ s ∙ ahead-more i old new (k .ahead);
-      behind = rw (take-more old i 0 h, without-push, t, take-more-set new j _ l, g) (ap (λ o. o ++ getD old i 0 ∷ []) (k .behind)) }
+      few = omega arith;
+      long = length-set new j _ ∙ k .long;
+      ahead = drop-set-lt (i + 1) new j _ s ∙ ahead-more i old new (k .ahead);
+      behind = rw (take-more old i 0 h, without-push, t, take-more-set new j _ l, g) (ap (λ o. o ++ getD old i 0 ∷ []) (k .behind));
+    }

@@ -84,11 +84,11 @@ moved-view p q at to None h = refl
 moved-view p q at to (Some w) h =
     view-begun p q to (record { owner = w .owner; shown = w .shown; x = w .x; y = w .y; wide = w .wide; high = w .high; at = at })
     (λ i j a b.
-      let l = place-below (w .wide) (w .high) j i a b in
-      let m = mul-comm (w .wide) (w .high) in
-      let r : to + j * w .wide + i ≡ to + (j * w .wide + i) = omega arith in
-      let s : at + j * w .wide + i ≡ at + (j * w .wide + i) = omega arith in
-      ap (λ k. getD q k 0) r ∙ h (j * w .wide + i) (omega arith) ∙ ap (λ k. getD p k 0) (sym s))
+    let l = place-below (w .wide) (w .high) j i a b in
+    let m = mul-comm (w .wide) (w .high) in
+    let r : to + j * w .wide + i ≡ to + (j * w .wide + i) = omega arith in
+    let s : at + j * w .wide + i ≡ at + (j * w .wide + i) = omega arith in
+    ap (λ k. getD q k 0) r ∙ h (j * w .wide + i) (omega arith) ∙ ap (λ k. getD p k 0) (sym s))
 
 -- all of them
 moved-views : (p q : List ℕ) (at to : ℕ) (os : List (Option Window)) → ((k : ℕ) → at + k < ending (length os) at os → getD q (to + k) 0 ≡ getD p (at + k) 0) →
@@ -98,10 +98,10 @@ moved-views p q at to (o ∷ os) h =
     let l = ending-from (length os) (at + size-of o) os in
     let a = moved-view p q at to o (λ k b. h k (omega arith)) in
     let b = moved-views p q (at + size-of o) (to + size-of o) os
-        (λ k c.
-          let r : to + size-of o + k ≡ to + (size-of o + k) = omega arith in
-          let s : at + size-of o + k ≡ at + (size-of o + k) = omega arith in
-          ap (λ m. getD q m 0) r ∙ h (size-of o + k) (omega arith) ∙ ap (λ m. getD p m 0) (sym s)) in
+    (λ k c.
+    let r : to + size-of o + k ≡ to + (size-of o + k) = omega arith in
+    let s : at + size-of o + k ≡ at + (size-of o + k) = omega arith in
+    ap (λ m. getD q m 0) r ∙ h (size-of o + k) (omega arith) ∙ ap (λ m. getD p m 0) (sym s)) in
     rw (a, b)
 
 same-head : (p q : List ℕ) (at : ℕ) (o : Option Window) (e : ℕ) → at + size-of o ≤ e → ((k : ℕ) → k < e → getD q k 0 ≡ getD p k 0) → view q (begun at o) ≡ view p (begun at o)
@@ -113,10 +113,10 @@ unfolding painted
 fresh-view q at w h =
     view-painted q q (record { owner = w .owner; shown = w .shown; x = w .x; y = w .y; wide = w .wide; high = w .high; at = at }) (λ i j. 0)
     (λ i j a b.
-      let l = place-below (w .wide) (w .high) j i a b in
-      let m = mul-comm (w .wide) (w .high) in
-      let r : at + j * w .wide + i ≡ at + (j * w .wide + i) = omega arith in
-      ap (λ k. getD q k 0) r ∙ h (j * w .wide + i) (omega arith))
+    let l = place-below (w .wide) (w .high) j i a b in
+    let m = mul-comm (w .wide) (w .high) in
+    let r : at + j * w .wide + i ≡ at + (j * w .wide + i) = omega arith in
+    ap (λ k. getD q k 0) r ∙ h (j * w .wide + i) (omega arith))
     (λ i j _. refl)
 
 -- a window is made at the number n, which has none: its picture is 0, and those behind it move up

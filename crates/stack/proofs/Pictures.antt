@@ -23,10 +23,10 @@ with-dots w f =
 dots-by : (wide high i j a b : ℕ) → (i < wide → j < high → a ≡ b) → ((wide ≤ i) ⊎ (high ≤ j) → 0 ≡ b) → pick (ltb i wide && ltb j high) a 0 ≡ b
 dots-by wide high i j a b f g =
     elim (cases-lt i wide) [
-      inr h ↦ rw (le-ltb i wide h) (g (inl h))
-    | inl h ↦ elim (cases-lt j high) [
-        inr k ↦ rw (lt-ltb i wide h, le-ltb j high k) (g (inr k))
-      | inl k ↦ rw (lt-ltb i wide h, lt-ltb j high k) (f h k)
+      | inr h ↦ rw (le-ltb i wide h) (g (inl h))
+      | inl h ↦ elim (cases-lt j high) [
+        | inr k ↦ rw (lt-ltb i wide h, le-ltb j high k) (g (inr k))
+        | inl k ↦ rw (lt-ltb i wide h, lt-ltb j high k) (f h k)
       ]
     ]
 

@@ -35,8 +35,8 @@ module _ (times : ℕ → List ℕ → ℕ) (none : (n : ℕ) → times n [] ≡
   times-other m n [] ne = refl
   times-other m n (x ∷ xs) ne =
       elim (cases-eq n x) [
-        inl e ↦ let f : eqb m x ≡ false = ne-eqb m x (λ q. ne (omega arith)) in rw (eq-eqb n x e, more m x xs, f) (omega (arith, times-other m n xs ne))
-      | inr d ↦ rw (ne-eqb n x d, more m x xs, more m x (without n xs)) (ap (λ t. pick (eqb m x) 1 0 + t) (times-other m n xs ne))
+        | inl e ↦ let f : eqb m x ≡ false = ne-eqb m x (λ q. ne (omega arith)) in rw (eq-eqb n x e, more m x xs, f) (omega (arith, times-other m n xs ne))
+        | inr d ↦ rw (ne-eqb n x d, more m x xs, more m x (without n xs)) (ap (λ t. pick (eqb m x) 1 0 + t) (times-other m n xs ne))
       ]
 
   pub times-same : (n : ℕ) (xs : List ℕ) → times n (without n xs) ≡ 0
@@ -44,8 +44,8 @@ module _ (times : ℕ → List ℕ → ℕ) (none : (n : ℕ) → times n [] ≡
   times-same n [] = none n
   times-same n (x ∷ xs) =
       elim (cases-eq n x) [
-        inl e ↦ rw (eq-eqb n x e) (times-same n xs)
-      | inr d ↦ rw (ne-eqb n x d, more n x (without n xs), ne-eqb n x d) (omega (arith, times-same n xs))
+        | inl e ↦ rw (eq-eqb n x e) (times-same n xs)
+        | inr d ↦ rw (ne-eqb n x d, more n x (without n xs), ne-eqb n x d) (omega (arith, times-same n xs))
       ]
 
   once-without : (w : ℕ) (xs : List ℕ) → ((n : ℕ) → times n xs ≤ 1) → (n : ℕ) → times n (without w xs) ≤ 1
@@ -65,8 +65,8 @@ module _ (times : ℕ → List ℕ → ℕ) (none : (n : ℕ) → times n [] ≡
   fewer zero k xs a b h z = absurd (omega arith)
   fewer (suc w) k xs a b h z =
       elim (cases-eq k w) [
-        inl e ↦ let r = few w xs a (all e) in omega arith
-      | inr ne ↦ let r = fewer w k (without w xs) (once-without w xs a) (low-without w xs b) (omega arith) (times-other k w xs ne ∙ z) in omega (arith, length-by w xs, a w)
+        | inl e ↦ let r = few w xs a (all e) in omega arith
+        | inr ne ↦ let r = fewer w k (without w xs) (once-without w xs a) (low-without w xs b) (omega arith) (times-other k w xs ne ∙ z) in omega (arith, length-by w xs, a w)
       ]
     where
       all : k ≡ w → (n : ℕ) → w ≤ n → times n xs ≡ 0

@@ -55,8 +55,8 @@ views-set p ws us n w e = ap (map (view p)) e ∙ map-set (view p) ws n w
 pub slot-low : (s : Stack) (n : ℕ) (w : Window) → getD (slots-of s) n None ≡ Some w → n < s .limit
 slot-low s n w e =
     elim (cases-lt n (s .limit)) [
-      inl h ↦ h
-    | inr h ↦ let z : _≡_ {A = Option Window} None (Some w) = slot-past (s .limit) n (s .windows) None h ∙ e in absurd (false≢true (ap isSome z))
+      | inl h ↦ h
+      | inr h ↦ let z : _≡_ {A = Option Window} None (Some w) = slot-past (s .limit) n (s .windows) None h ∙ e in absurd (false≢true (ap isSome z))
     ]
 
 none-is : {X : Type 0} (o : Option X) → isSome o ≡ false → o ≡ None
@@ -71,8 +71,8 @@ pub window-at : (s : Stack) (d : Desk) (p : List ℕ) (n : ℕ) → d .windows �
 unfolding window
 window-at s d p n e =
     elim (cases-lt n (length (slots-of s))) [
-      inl h ↦ rw e (getD-map (view p) (slots-of s) n None nothing h)
-    | inr h ↦ rw e (getD-past (windows-of s p) n nothing (simp length-map h) ∙ sym (ap (view p) (getD-past (slots-of s) n None h)))
+      | inl h ↦ rw e (getD-map (view p) (slots-of s) n None nothing h)
+      | inr h ↦ rw e (getD-past (windows-of s p) n nothing (simp length-map h) ∙ sym (ap (view p) (getD-past (slots-of s) n None h)))
     ]
 
 -- whose the window n is, by the window

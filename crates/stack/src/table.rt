@@ -40,14 +40,23 @@ impl Stack {
         ensures windows { λ r. ⌜ ((p : List ℕ) → windows-of r p ≡ replicate limit nothing) ⌝ }
         ensures order { λ r. ⌜ order-of r ≡ [] ⌝ }
     {
-        Stack { limit: limit as usize, windows: [None; 255], order: [0; 255], count: 0 }
+        Stack {
+            limit: limit as usize,
+            windows: [None; 255],
+            order: [0; 255],
+            count: 0,
+        }
     }
 
     // The window n, where it is there, for counters over the table.
     pub fn slot(&self, n: usize) -> Option<Window>
         ensures { λ r. ⌜ r ≡ getD (slots-of (now (self .entry))) n None ⌝ }
     {
-        if n < self.limit { self.windows[n] } else { None }
+        if n < self.limit {
+            self.windows[n]
+        } else {
+            None
+        }
     }
 
     // The window n, where it is there.

@@ -28,4 +28,4 @@ returns c hi hj =
     let a = simp toZ-ofZ at (c .past .ensures) in
     let b = simp toZ-ofZ at (c .past-2 .ensures) in
     dot-some s p (c .args .i) (c .args .j) (c .in-Some .field-0-0) w (c .picture .result) (c .past .result) (c .past-2 .result) (c .dot .result) (l .0) (l .1) (c .picture .ensures)
-      (a (left-of p w _ _ (f .covers p))) (b (top-of p w _ _ (f .covers p))) (c .dot .ensures)
+    (a (left-of p w _ _ (f .covers p))) (b (top-of p w _ _ (f .covers p))) (c .dot .ensures)

@@ -19,7 +19,7 @@ returns-in-rest c z g =
     let e = fill (c .args .program) (c .args .window) (c .args .x) (c .args .y) (c .args .wide) (c .args .high) (c .args .colour) in
     subst (Carried (sizes-of z) e (c .args .s .now) p _ _) (sym (c .answer .ensures))
     (refusal z e (c .args .s .now) p (c .args .program) g
-      (and-left (mine d (c .args .program) (c .args .window)) (box-fits (window d (c .args .window)) (c .args .x) (c .args .y) (c .args .wide) (c .args .high)) (c .in-rest .ensures tt d p refl)) refl)
+    (and-left (mine d (c .args .program) (c .args .window)) (box-fits (window d (c .args .window)) (c .args .x) (c .args .y) (c .args .wide) (c .args .high)) (c .in-rest .ensures tt d p refl)) refl)
 
 pub returns-then-not-has-box : need.returns-then-not-has-box
 unfolding taken sender
@@ -30,8 +30,8 @@ returns-then-not-has-box c z g =
     let o = c .in-Some .ensures tt in
     subst (Carried (sizes-of z) e (c .args .s .now) p _ _) (sym (c .answer-then-not-has-box .ensures))
     (refusal z e (c .args .s .now) p (c .args .program) g
-      (and-right (mine d (c .args .program) (c .args .window)) (box-fits (window d (c .args .window)) (c .args .x) (c .args .y) (c .args .wide) (c .args .high))
-        (ap (λ w. box-fits w (c .args .x) (c .args .y) (c .args .wide) (c .args .high)) (o .value d p refl) ∙ sym (c .if-not-has-box .ensures tt p))) refl)
+    (and-right (mine d (c .args .program) (c .args .window)) (box-fits (window d (c .args .window)) (c .args .x) (c .args .y) (c .args .wide) (c .args .high))
+    (ap (λ w. box-fits w (c .args .x) (c .args .y) (c .args .wide) (c .args .high)) (o .value d p refl) ∙ sym (c .if-not-has-box .ensures tt p))) refl)
 
 pub returns : need.returns
 returns c z g =
@@ -41,4 +41,4 @@ returns c z g =
     let o = c .in-Some .ensures tt in
     subst (Carried (sizes-of z) e (c .args .s .now) p _ _) (sym (c .answer-2 .ensures))
     (fill-carried z (c .args .s .now) p (c .fill .last .pictures) (c .args .program) (c .args .window) (c .in-Some .w) (c .picture .result) (c .fill .result) g (o .slot) (o .mine d p refl) (o .value d p refl) (c .picture .ensures)
-      (c .args .x) (c .args .y) (c .args .wide) (c .args .high) (c .args .colour) (c .area .result) (sym (c .if-not-has-box .ensures tt p)) (c .area .ensures) (c .fill .ensures .answer) (c .fill .ensures .done))
+    (c .args .x) (c .args .y) (c .args .wide) (c .args .high) (c .args .colour) (c .area .result) (sym (c .if-not-has-box .ensures tt p)) (c .area .ensures) (c .fill .ensures .answer) (c .fill .ensures .done))

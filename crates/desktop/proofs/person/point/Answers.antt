@@ -18,7 +18,7 @@ returns-in-rest c p g =
     let py : SFits w16 (c .nearest-dot-py .result) = search needs in
     simp toZ-ofZ
     (point-quiet (c .args .z) s p g (c .args .x) (c .args .y) (c .nearest-dot-px .result) (c .nearest-dot-py .result) (simp toZ-ofZ at (c .nearest-dot-px .ensures (g .sizes .1))) (simp toZ-ofZ at (c .nearest-dot-py .ensures (g .sizes .3)))
-      (heard-listens s p (c .nearest-dot-px .result) (c .nearest-dot-py .result) (s .held) None (g .sound p .held-there) (simp toZ-ofZ at (c .in-rest .ensures tt))))
+    (heard-listens s p (c .nearest-dot-px .result) (c .nearest-dot-py .result) (s .held) None (g .sound p .held-there) (simp toZ-ofZ at (c .in-rest .ensures tt))))
 
 pub returns : need.returns
 unfolding Fits-sizes
@@ -35,4 +35,4 @@ returns c p g =
     let oy : SFits w32 (c .offset-2 .result) = search needs in
     simp toZ-ofZ
     (point-told (c .args .z) s p g (c .args .x) (c .args .y) (c .nearest-dot-px .result) (c .nearest-dot-py .result) (simp toZ-ofZ at (c .nearest-dot-px .ensures (g .sizes .1))) (simp toZ-ofZ at (c .nearest-dot-py .ensures (g .sizes .3)))
-      (c .in-Some .n) (c .in-Some .w) (l .0) (l .1) (c .offset .result) (c .offset-2 .result) (simp toZ-ofZ at (c .offset .ensures)) (simp toZ-ofZ at (c .offset-2 .ensures)))
+    (c .in-Some .n) (c .in-Some .w) (l .0) (l .1) (c .offset .result) (c .offset-2 .result) (simp toZ-ofZ at (c .offset .ensures)) (simp toZ-ofZ at (c .offset-2 .ensures)))

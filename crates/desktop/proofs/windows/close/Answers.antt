@@ -24,6 +24,6 @@ returns c z g =
     let d = c .remove .ensures in
     subst (Carried (sizes-of z) (close (c .args .program) (c .args .window)) (c .args .s .now) p _ _) (sym (c .answer-2 .ensures))
     (closed-carried z (c .args .s .now) (c .remove .last .self) p (c .close-gap .last .pictures) (c .args .program) (c .args .window) (c .area-used-used .result) (c .dots .result) (c .in-Some .w) (c .let-go-s .result) (c .let-go-s-2 .result) g
-      (o .slot) (o .mine (desk-of (c .args .s .now) p) p refl) (c .area-used-used .ensures .value p)
-      (d .slots ∙ b .slots ∙ ap (packed 0) (a .slots)) (d .limit ∙ b .limit ∙ a .limit) (d .order ∙ ap (without (c .args .window)) (b .order ∙ a .order)) (c .let-go-s .ensures) (c .let-go-s-2 .ensures)
-      (c .dots .ensures .value) (c .close-gap .ensures))
+    (o .slot) (o .mine (desk-of (c .args .s .now) p) p refl) (c .area-used-used .ensures .value p)
+    (d .slots ∙ b .slots ∙ ap (packed 0) (a .slots)) (d .limit ∙ b .limit ∙ a .limit) (d .order ∙ ap (without (c .args .window)) (b .order ∙ a .order)) (c .let-go-s .ensures) (c .let-go-s-2 .ensures)
+    (c .dots .ensures .value) (c .close-gap .ensures))

@@ -14,4 +14,4 @@ returns-in-Some c =
     let w = c .args .width in
     let e = ap (take (w - 0)) (c .to-le-bytes .ensures) ∙ take-four w (c .in-Some .n) (omega arith) in
     puts-from-add _ _ _ (take (w - 0) (c .to-le-bytes .result)) (c .add .result)
-      (sym (ap (mapped (digits w)) (c .in-Some .ensures tt .value)) ∙ ap (λ l. Some l) (sym e)) (c .add .ensures)
+    (sym (ap (mapped (digits w)) (c .in-Some .ensures tt .value)) ∙ ap (λ l. Some l) (sym e)) (c .add .ensures)

@@ -20,7 +20,7 @@ returns-in-Some c =
     let b : c .bits .result ≡ unsigned 32768 (c .in-Some .n) = simp toZ-ofZ at (c .bits .ensures) in
     let e : c .to-le-bytes .result ≡ digits 2 (c .bits .result) = c .to-le-bytes .ensures ∙ two-digits (c .bits .result) in
     puts-from-add _ _ _ (c .to-le-bytes .result) (c .add .result)
-      (sym (ap (mapped (λ z. digits 2 (unsigned 32768 z))) (c .in-Some .ensures tt)) ∙ ap (λ l. Some l) (sym (e ∙ ap (digits 2) b))) (c .add .ensures)
+    (sym (ap (mapped (λ z. digits 2 (unsigned 32768 z))) (c .in-Some .ensures tt)) ∙ ap (λ l. Some l) (sym (e ∙ ap (digits 2) b))) (c .add .ensures)
 
 pub returns-in-None : need.returns-in-None
 unfolding near-bytes

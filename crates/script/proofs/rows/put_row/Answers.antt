@@ -26,4 +26,4 @@ returns c =
     let d : c .to-le-bytes .result ≡ digits 2 (length ws) = c .to-le-bytes .ensures ∙ two-digits (length ws) in
     let added : vec-items (c .add .last .out) ≡ old ++ digits 2 (length ws) = c .in-Continue-add .ensures tt ∙ ap (λ l. old ++ l) d in
     going-last {old = old} left (vec-items (c .put-all .last .out)) (c .put-all .result)
-      (going-more (digits 2 (length ws)) (vec-items (c .add .last .out)) left (going-by e (going-start _ old)) added) (c .put-all .ensures)
+    (going-more (digits 2 (length ws)) (vec-items (c .add .last .out)) left (going-by e (going-start _ old)) added) (c .put-all .ensures)

@@ -18,7 +18,7 @@ loop-word-again c =
     let first = first-of _ (c .in-Some .word .now) _ (c .in-Some .ensures tt .steps) in
     let old = vec-items (c .loop-word .found) in
     let pushed : vec-items (c .push .last .self) ≡ old ++ (c .in-Some .word ∷ []) =
-        c .push .ensures .items ∙ ap (λ r. cond (isOk r) (old ++ (c .in-Some .word ∷ [])) old) (c .in-Continue-push .was tt) in
+    c .push .ensures .items ∙ ap (λ r. cond (isOk r) (old ++ (c .in-Some .word ∷ [])) old) (c .in-Continue-push .was tt) in
     word-more (c .args .text .now) _ _ old (c .in-Some .word) _ (c .loop-word .inv) first pushed
 
 pub returns : need.returns

@@ -26,12 +26,13 @@ returns-then-covers c =
       slot = sym (f .slot);
       low = slot-low (c .args .self .now) _ (c .in-Some .w) (sym (f .slot));
       front = λ d p h.
-        let t = simp toZ-ofZ at (c .if-covers .ensures tt p) in
-        let s = front-step d (c .args .self .now .order) (c .loop-i .i) (c .args .x) (c .args .y) _ true (search needs) (search needs) (f .value d p h) t in
-        let v = simp toZ-ofZ at (c .loop-i .inv d p h) in
-        sym v ∙ s;
+          let t = simp toZ-ofZ at (c .if-covers .ensures tt p) in
+          let s = front-step d (c .args .self .now .order) (c .loop-i .i) (c .args .x) (c .args .y) _ true (search needs) (search needs) (f .value d p h) t in
+          let v = simp toZ-ofZ at (c .loop-i .inv d p h) in
+          sym v ∙ s;
       value = λ d p h. sym (f .value d p h);
-      covers = λ p. let t = simp toZ-ofZ at (c .if-covers .ensures tt p) in sym t }
+      covers = λ p. let t = simp toZ-ofZ at (c .if-covers .ensures tt p) in sym t;
+    }
 
 pub loop-i-again : need.loop-i-again
 loop-i-again c d p h =

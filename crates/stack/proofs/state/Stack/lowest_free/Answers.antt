@@ -16,7 +16,8 @@ returns-then-is-none c =
     record {
       value = λ p. let e = free-none p (slots-of (c .args .self .now)) (c .loop-n .n) (omega arith) t in omega (arith, c .loop-n .inv p);
       none = slot-none (c .args .self .now) (c .loop-n .n) (c .slot .result) (c .slot .ensures) (c .if-is-none .ensures tt);
-      most = omega arith }
+      most = omega arith;
+    }
 
 pub loop-n-again : need.loop-n-again
 loop-n-again c p =
@@ -31,4 +32,5 @@ returns c =
     record {
       value = λ p. let e = free-end p (slots-of s) (c .loop-n .n) (omega arith) in omega (arith, c .loop-n .inv p);
       none = sym (slot-past (s .limit) (s .limit) (s .windows) None (omega arith));
-      most = omega arith }
+      most = omega arith;
+    }

@@ -24,4 +24,5 @@ returns c =
       windows = λ d p h. windows-by s (c .args .c) (c .args .n) w o d p h (put-at (c .args .x) (c .args .y) (Some w)) _ _ (place-by s (c .args .c) (c .args .n) w o d p h (c .args .x) (c .args .y)) e;
       slots = slots-by s (c .args .c) (c .args .n) w o (put-at (c .args .x) (c .args .y)) _ e;
       order = f .order;
-      limit = f .limit }
+      limit = f .limit;
+    }

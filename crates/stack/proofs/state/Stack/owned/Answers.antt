@@ -15,7 +15,8 @@ returns-then-w-c c =
       low = slot-low (c .args .self .now) (c .args .n) (c .in-Some .w) (sym (f .slot));
       owner = c .if-w-c .taken;
       mine = λ d p h. mine-by d _ _ _ (f .value d p h) ∙ eq-eqb _ _ (c .if-w-c .taken);
-      value = λ d p h. sym (f .value d p h) }
+      value = λ d p h. sym (f .value d p h);
+    }
 
 pub returns-else-w-c : need.returns-else-w-c
 returns-else-w-c c d p h = mine-by d _ _ _ (c .in-Some .ensures tt .value d p h) ∙ ne-eqb _ _ (c .if-w-c .left)

@@ -16,11 +16,14 @@ loop-n-again c =
     let ws = c .args .self .now .windows in
     let b = c .begun-new .ensures in
     let o : c .slot-old .result ≡ getD ws n None =
-        c .slot-old .ensures ∙ sym (slot-in (c .loop-n .self .limit) n (c .loop-n .self .windows) None (omega arith)) ∙ ap (λ l. getD l n None) (v .0) ∙ packing-at n 0 ws in
-    (rw (add-one n) (ap (λ l. set l n (c .begun-new .result .0)) (v .0) ∙ ap (set (packing n 0 ws) n) (b .window ∙ ap (λ k. begun k (c .slot-old .result)) (v .1) ∙ ap (begun (ending n 0 ws)) o) ∙ sym (packing-more n 0 ws)),
-    rw (add-one n) (b .behind .0 ∙ ap (λ k. k + size-of (c .slot-old .result)) (v .1) ∙ ap (λ s. ending n 0 ws + size-of s) o ∙ sym (ending-more n 0 ws)),
-    omega (arith, b .behind .0, b .behind .1, v .2),
-    v .3, v .4, v .5)
+    c .slot-old .ensures ∙ sym (slot-in (c .loop-n .self .limit) n (c .loop-n .self .windows) None (omega arith)) ∙ ap (λ l. getD l n None) (v .0) ∙ packing-at n 0 ws in (
+      rw (add-one n) (ap (λ l. set l n (c .begun-new .result .0)) (v .0) ∙ ap (set (packing n 0 ws) n) (b .window ∙ ap (λ k. begun k (c .slot-old .result)) (v .1) ∙ ap (begun (ending n 0 ws)) o) ∙ sym (packing-more n 0 ws)),
+      rw (add-one n) (b .behind .0 ∙ ap (λ k. k + size-of (c .slot-old .result)) (v .1) ∙ ap (λ s. ending n 0 ws + size-of s) o ∙ sym (ending-more n 0 ws)),
+      omega (arith, b .behind .0, b .behind .1, v .2),
+      v .3,
+      v .4,
+      v .5,
+    )
 
 pub returns : need.returns
 returns c =
@@ -30,4 +33,5 @@ returns c =
     record {
       slots = ap (λ m. take m (c .loop-n .self .windows)) (v .3) ∙ ap (take (c .args .self .now .limit)) (v .0 ∙ ap (λ m. packing m 0 ws) k) ∙ packing-all (c .args .self .now .limit) 0 ws;
       order = rw (v .4, v .5);
-      limit = v .3 }
+      limit = v .3;
+    }

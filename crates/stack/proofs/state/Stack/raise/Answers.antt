@@ -13,4 +13,5 @@ returns c =
       answer = c .append .ensures .answer ∙ ap (λ o. ltb (length o) 255) e;
       order = raised 255 (c .args .n) (order-of (c .args .self .now)) (order-of (c .remove .last .self)) (order-of (c .append .last .self)) (c .append .result) (order-few (c .args .self .now)) e (c .append .ensures .answer) (c .append .ensures .order);
       slots = c .append .ensures .slots ∙ c .remove .ensures .slots;
-      limit = c .append .ensures .limit ∙ c .remove .ensures .limit }
+      limit = c .append .ensures .limit ∙ c .remove .ensures .limit;
+    }

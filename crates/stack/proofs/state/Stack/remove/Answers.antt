@@ -12,6 +12,6 @@ pub loop-i-again : need.loop-i-again
 loop-i-again c =
     let v = c .loop-i .inv in
     elim (c .if-m-n .came) [
-      then-m-n w ↦ rw (w .self-is, w .put-is) (v .0, v .1, v .2, kept-more _ _ _ _ _ (search needs) (v .3) (w .if-m-n .taken))
-    | else-m-n w ↦ rw (w .self-is, w .put-is) (v .0, v .1, v .2, kept-skip _ _ _ _ _ (search needs) (v .3) (w .if-m-n .left))
+      | then-m-n w ↦ rw (w .self-is, w .put-is) (v .0, v .1, v .2, kept-more _ _ _ _ _ (search needs) (v .3) (w .if-m-n .taken))
+      | else-m-n w ↦ rw (w .self-is, w .put-is) (v .0, v .1, v .2, kept-skip _ _ _ _ _ (search needs) (v .3) (w .if-m-n .left))
     ]

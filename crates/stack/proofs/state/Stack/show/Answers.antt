@@ -27,4 +27,5 @@ returns c =
       windows = λ d p h. windows-by s (c .args .c) (c .args .n) w o d p h (put-on (c .args .on) (Some w)) _ _ (show-by s (c .args .c) (c .args .n) w o d p h (c .args .on)) e;
       slots = slots-by s (c .args .c) (c .args .n) w o (put-on (c .args .on)) _ e;
       order = f .order;
-      limit = f .limit }
+      limit = f .limit;
+    }
