@@ -3,6 +3,7 @@ mod told;
 
 use desktop::carry::carry_out;
 use desktop::look::dot_at;
+use layout::budget::Budget;
 use layout::sizes::Sizes;
 use layout::state::State;
 use protocol::Kinds;
@@ -49,8 +50,8 @@ fn show(rt: &LibcRuntime, z: Sizes, s: &State, pictures: &[u32]) -> Result<(), A
 }
 
 // The events of a call, one after another, up to the first that is refused.
-fn run(rt: &LibcRuntime, z: Sizes, call: &[u8]) -> Result<(), AnyError> {
-    let mut pictures = vec![in rt.alloc(); 0u32; z.dots as usize]?;
+fn run(rt: &LibcRuntime, z: Sizes, budget: Budget, call: &[u8]) -> Result<(), AnyError> {
+    let mut pictures = vec![in rt.alloc(); 0u32; budget.pictures]?;
     let mut s = State::new(z.windows.min(255) as u8);
     let kinds = Kinds { built: [true; 13] };
     let programs = z.programs.min(64) as u8;
@@ -89,13 +90,16 @@ fn start(rt: &LibcRuntime) -> Result<(), AnyError> {
     let Some(z) = sizes(words.as_slice()) else {
         return Err(USAGE.into());
     };
-    if let Some(no) = z.refusal() {
-        println!(rt, "refused {} at {}", no.number(), no.place())?;
-        return Ok(());
-    }
+    let budget = match z.budget() {
+        Ok(budget) => budget,
+        Err(no) => {
+            println!(rt, "refused {} at {}", no.number(), no.place())?;
+            return Ok(());
+        }
+    };
     let mut call = Vec::new(rt.alloc());
     rt.stdin().read_to_end(&mut call)?;
-    run(rt, z, call.as_slice())
+    run(rt, z, budget, call.as_slice())
 }
 
 fn main(rt: LibcRuntime) -> Result<(), AnyError> {

@@ -21,6 +21,7 @@ pub record Window : Type 0 where
   pub high : ℕ
   pub dots : ℕ → ℕ → ℕ
 
+-- where no window is
 abbrev pub nothing : Window
 nothing = record { there = false; owner = 0; shown = false; x = pos 0; y = pos 0; wide = 0; high = 0; dots = λ i j. 0 }
 
@@ -73,9 +74,11 @@ pub data Word : Type 0 where
   typed : ℕ → ℕ → Word
   pasted : ℕ → List ℕ → Word
 
+-- the window of a number
 unfoldable pub window : Desk → ℕ → Window
 window d n = getD (d .windows) n nothing
 
+-- the desk with one part changed: a window, the order, the pointer, who has the keys and who holds the pointer, the clipboard
 unfoldable pub with-window : Desk → ℕ → Window → Desk
 with-window d n w =
     record { windows = set (d .windows) n w; order = d .order; px = d .px; py = d .py; keys = d .keys; held = d .held; clip-of = d .clip-of; clip = d .clip }
@@ -106,14 +109,16 @@ unfoldable pub front : Desk → List ℕ → ℤ → ℤ → ℕ
 front d [] x y = 0
 front d (n ∷ ns) x y = pick (eqb (front d ns x y) 0) (pick (in-window (window d n) x y) (suc n) 0) (front d ns x y)
 
--- what is seen at a dot of the desk: the front window's dot, or the desk's own colour, 0
+-- the dot of a window (its number + 1, or 0 for the desk's own colour, 0) that lies at a dot of the desk
 unfoldable pub dot-of : Desk → ℕ → ℕ → ℕ → ℕ
 dot-of d i j zero = 0
 dot-of d i j (suc n) = window d n .dots (mag (pos i -ℤ window d n .x)) (mag (pos j -ℤ window d n .y))
 
+-- what is seen at a dot of the desk: the front window's dot
 unfoldable pub dot : Desk → ℕ → ℕ → ℕ
 dot d i j = dot-of d i j (front d (d .order) (pos i) (pos j))
 
+-- the lowest number that no window has
 unfoldable pub free : List Window → ℕ
 free [] = 0
 free (w ∷ ws) = pick (w .there) (suc (free ws)) 0
@@ -123,20 +128,25 @@ unfoldable pub area : List Window → ℕ
 area [] = 0
 area (w ∷ ws) = pick (w .there) (w .wide * w .high) 0 + area ws
 
+-- a row of numbers with one taken out
 unfoldable pub without : ℕ → List ℕ → List ℕ
 without n [] = []
 without n (m ∷ ms) = pick (eqb n m) (without n ms) (m ∷ without n ms)
 
+-- the window n is there, and its owner is c
 unfoldable pub mine : Desk → ℕ → ℕ → Bool
 mine d c n = window d n .there && eqb (window d n .owner) c
 
+-- a window with another picture
 unfoldable pub painted : Window → (ℕ → ℕ → ℕ) → Window
 painted w f =
     record { there = w .there; owner = w .owner; shown = w .shown; x = w .x; y = w .y; wide = w .wide; high = w .high; dots = f }
 
+-- a box lies in a window: its corner is a dot of it, and its sides do not pass the window's
 unfoldable pub box-fits : Window → ℕ → ℕ → ℕ → ℕ → Bool
 box-fits w x y a b = (ltb x (w .wide) && ltb y (w .high)) && (leb (x + a) (w .wide) && leb (y + b) (w .high))
 
+-- the place of 0 to n - 1 that is nearest to a
 unfoldable pub clamp : ℤ → ℕ → ℤ
 clamp a n = pick (ltZ a (pos 0)) (pos 0) (pick (leZ (pos n) a) (pos (n - 1)) a)
 
@@ -209,6 +219,7 @@ does z d (press false) = press-up d (d .held)
 does z d (key k) = (d, told-key d k (d .keys))
 does z d paste = (d, told-clip d (d .keys))
 
+-- the number of an event's kind
 unfoldable pub kind : Event → ℕ
 kind (make c x y w h) = 0
 kind (close c n) = 1
@@ -224,6 +235,7 @@ kind (press b) = 10
 kind (key k) = 11
 kind paste = 12
 
+-- what is told where a kind isn't there yet: no, to the program that asked
 unfoldable pub sender : Event → List (ℕ × Word)
 sender (make c x y w h) = (c, no) ∷ []
 sender (close c n) = (c, no) ∷ []
@@ -243,10 +255,12 @@ sender paste = []
 unfoldable pub after : Sizes → Desk → Event → Desk × List (ℕ × Word)
 after z d e = pick (z .built (kind e)) (does z d e) (d, sender e)
 
+-- the desk after some events
 unfoldable pub run : Sizes → Desk → List Event → Desk
 run z d [] = d
 run z d (e ∷ es) = run z (after z d e .0) es
 
+-- of what is told, the words to one program
 unfoldable pub words-to : ℕ → List (ℕ × Word) → List Word
 words-to c [] = []
 words-to c (m ∷ ms) = pick (eqb (m .0) c) (m .1 ∷ words-to c ms) (words-to c ms)
@@ -256,6 +270,7 @@ unfoldable pub told : Sizes → Desk → ℕ → List Event → List Word
 told z d c [] = []
 told z d c (e ∷ es) = words-to c (after z d e .1) ++ told z (after z d e .0) c es
 
+-- the desk at the start
 unfoldable pub empty : Sizes → Desk
 empty z =
     record { windows = replicate (z .windows) nothing; order = []; px = pos 0; py = pos 0; keys = 0; held = 0; clip-of = 0; clip = [] }
