@@ -10,3 +10,4 @@ mod Sequences
 mod Signs
 mod Tests
 pub mod WordLaws
+pub mod Fitting

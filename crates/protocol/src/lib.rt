@@ -18,6 +18,7 @@ mod types;
 mod write;
 
 pub use laws::events_stand;
+pub use laws::fits_stand;
 pub use laws::words_stand;
 pub use types::Event;
 pub use types::Fault;
