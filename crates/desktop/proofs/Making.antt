@@ -9,12 +9,13 @@ use lib.Dec.{ltb, leb, eqb}
 use lib.IntN.{ℤ}
 use lib.ListN.{length, getD, set}
 use borrow.Author.Tests.{lt-ltb, leb-true, ltb-true}
-use Rattle.std.proofs.shelf.Tests.{and-parts}
+use Rattle.std.proofs.shelf.Tests.{and-parts, both-ways}
 use Rattle.std.specs.declared.option.Option.{Option}
 use Rattle.std.specs.declared.option.Option.the-variants.{Some, None}
 use Rattle.model.specs.Basics.{pick}
 use Rattle.model.specs.Desk as desk
 use Rattle.model.specs.Desk.{Desk, nothing, free, area, window, with-window, with-order, with-hands, mine, without, does, make, close, made, done}
+use Rattle.model.specs.System.{taken}
 use Rattle.stack.specs.View.{view, slots-of, windows-of, order-of, numbered, begun, packed, size-of}
 use Rattle.stack.specs.Packed.{Packed, fresh}
 use Rattle.stack.specs.declared.state.Window.{Window}
@@ -31,7 +32,7 @@ use Rattle.desktop.specs.declared.told.Told.{Told}
 use Rattle.desktop.specs.Does.{Carried, answered}
 use Rattle.desktop.specs.Gaps.{Opened, Closed}
 use Rattle.desktop.specs.Windows.{makeable, start-of}
-use Rattle.desktop.proofs.Carrying.{carried}
+use Rattle.desktop.proofs.Carrying.{carried-to}
 use Rattle.desktop.proofs.Arranging.{with-stack, desk-with, make-room}
 
 -- the picture of a window that is made begins where those of lower numbers end
@@ -72,7 +73,7 @@ pub made-carried : (z : Sizes) (s : State) (t : Stack) (p q : List ℕ) (c n wid
     b ≡ ltb (length (order-of (s .stack))) 255 → order-of t ≡ pick b (order-of (s .stack) ++ n ∷ []) (order-of (s .stack)) →
     at ≡ start-of (getD (slots-of t) n None) → size ≡ wide * high → (at ≤ used → used + size ≤ length p → Opened at size used p q) →
     Carried (sizes-of z) (make c x y wide high) s p (with-stack s t) q (told-made c n)
-unfolding does with-order with-window
+unfolding does with-order with-window taken
 made-carried z s t p q c n wide high used at size x y x′ y′ b ex ey g f e u m k′ l a o v sz w =
     let k : slots-of t ≡ packed 0 (set (slots-of (s .stack)) n (Some (blank c x y wide high))) = k′ ∙ ap (λ i. packed 0 (set (slots-of (s .stack)) n (Some (blank c i y′ wide high)))) ex ∙ ap (λ i. packed 0 (set (slots-of (s .stack)) n (Some (blank c x i wide high)))) ey in
     let al = allowed z c n wide high used m in
@@ -93,8 +94,8 @@ made-carried z s t p q c n wide high used at size x y x′ y′ b ex ey g f e u 
     (λ i h. ap (λ j. getD q (j + wide * high + i) 0) (sym st) ∙ op .behind i (omega (arith, st, us, h)) ∙ ap (λ j. getD p (j + i) 0) st) ∙
     ap (λ os. set (map (view p) os) n (fresh (blank c x y wide high))) (packed-same 0 (slots-of (s .stack)) (g .packed)) in
     let tk : makeable (sizes-of z) c (free (windows-of (s .stack) p)) wide high (area (windows-of (s .stack) p)) ≡ true = subst (λ i. makeable (sizes-of z) c i wide high (area (windows-of (s .stack) p)) ≡ true) f (subst (λ i. makeable (sizes-of z) c n wide high i ≡ true) u m) in
-    carried z (make c x y wide high) s (with-stack s t) p q (told-made c n) g (op .len) l (subst (Packed 0) (sym k) (packed-is 0 _))
-    (rw (tk, ← f, vs, o, full)) (rw (tk, ← f))
+    carried-to z (make c x y wide high) s (with-stack s t) p q (told-made c n) g (op .len) l (subst (Packed 0) (sym k) (packed-is 0 _))
+    (rw (tk, ← f, vs, o, full)) (rw (tk, ← f)) (λ h. absurd (both-ways _ h tk))
 
 pub closed-carried : (z : Sizes) (s : State) (t : Stack) (p q : List ℕ) (c n used size : ℕ) (w : Window) (keys held : Option ℕ) → Good (sizes-of z) s (length p) →
     getD (slots-of (s .stack)) n None ≡ Some w → mine (desk-of s p) c n ≡ true → used ≡ area (windows-of (s .stack) p) →
@@ -102,7 +103,7 @@ pub closed-carried : (z : Sizes) (s : State) (t : Stack) (p q : List ℕ) (c n u
     numbered keys ≡ pick (eqb (numbered (s .keys)) (suc n)) 0 (numbered (s .keys)) → numbered held ≡ pick (eqb (numbered (s .held)) (suc n)) 0 (numbered (s .held)) →
     size ≡ w .wide * w .high → (w .at + size ≤ used → used ≤ length p → Closed (w .at) size used p q) →
     Carried (sizes-of z) (close c n) s p (record { stack = t; x = s .x; y = s .y; keys = keys; held = held; clip = s .clip }) q (answered c true)
-unfolding does with-hands with-order with-window
+unfolding does with-hands with-order with-window taken
 closed-carried z s t p q c n used size w keys held g e m u k l o ks hs es h =
     let st : w .at ≡ ending n 0 (slots-of (s .stack)) = begins-at 0 n (slots-of (s .stack)) w (g .packed) e in
     let us : ending (length (slots-of (s .stack))) 0 (slots-of (s .stack)) ≡ used = used-is s p ∙ sym u in
@@ -118,4 +119,4 @@ closed-carried z s t p q c n used size w keys held g e m u k l o ks hs es h =
     ap (λ j. getD q (j + i) 0) (sym st) ∙ cl .behind i (omega (arith, st, us, sz, a)) ∙ ap (λ j. getD p (j + w .wide * w .high + i) 0) st ∙
     ap (λ j. getD p (ending n 0 (slots-of (s .stack)) + j + i) 0) (sym sz)) ∙
     ap (λ os. set (map (view p) os) n nothing) (packed-same 0 (slots-of (s .stack)) (g .packed)) in
-    carried z (close c n) s _ p q (answered c true) g (cl .len) l (subst (Packed 0) (sym k) (packed-is 0 _)) (rw (m, vs, o, ks, hs)) (rw m)
+    carried-to z (close c n) s _ p q (answered c true) g (cl .len) l (subst (Packed 0) (sym k) (packed-is 0 _)) (rw (m, vs, o, ks, hs)) (rw m) (λ h. absurd (both-ways _ h m))

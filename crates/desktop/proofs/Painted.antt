@@ -9,12 +9,13 @@ use native.Mathlib.Nat.{zero-add, add-zero}
 use lib.ListN.{length, getD, set, drop}
 use lib.Dec.{ltb, leb}
 use borrow.Author.Tests.{leb-true, ltb-true}
-use Rattle.std.proofs.shelf.Tests.{and-parts}
+use Rattle.std.proofs.shelf.Tests.{and-parts, both-ways}
 use Rattle.std.specs.declared.option.Option.{Option}
 use Rattle.std.specs.declared.option.Option.the-variants.{Some, None}
 use Rattle.std.proofs.shelf.Lists.{same-lists, getD-drop, getD-default, drop-drop}
 use Rattle.model.specs.Desk as desk
 use Rattle.model.specs.Desk.{Desk, Event, Word, window, with-window, painted, mine, does, done, box-fits, fill, put, copy}
+use Rattle.model.specs.System.{taken}
 use Rattle.protocol.specs.Fields.{number, numbers}
 use Rattle.protocol.specs.Meaning.{part, lies}
 use Rattle.protocol.specs.declared.types.Part.{Part}
@@ -35,7 +36,7 @@ use Rattle.layout.specs.declared.sizes.Sizes.{Sizes}
 use Rattle.layout.specs.declared.state.State.{State}
 use Rattle.desktop.specs.Does.{Carried, answered}
 use Rattle.desktop.specs.Painting.{picture-of, area-at, span-at}
-use Rattle.desktop.proofs.Carrying.{carried}
+use Rattle.desktop.proofs.Carrying.{carried-to}
 use Rattle.desktop.proofs.Arranging.{desk-with}
 
 -- the picture of a window that is there lies in the lent pictures
@@ -60,10 +61,10 @@ view-by p q w paint h = ap (with-dots w) (fun-ext (λ i. fun-ext (λ j. h .dots 
 -- a window's picture is painted, and all else is as it was
 pub painted-carried : (z : Sizes) (e : Event) (s : State) (p q : List ℕ) (c n : ℕ) (w : Window) (paint : (ℕ → ℕ → ℕ) → ℕ → ℕ → ℕ) → Good (sizes-of z) s (length p) →
     getD (slots-of (s .stack)) n None ≡ Some w → window (desk-of s p) n ≡ view p (Some w) → Painted (picture-of w) paint p q →
-    does (sizes-of z) (desk-of s p) e ≡ (with-window (desk-of s p) n (painted (window (desk-of s p) n) (paint (window (desk-of s p) n .dots))), (c, done) ∷ []) →
+    does (sizes-of z) (desk-of s p) e ≡ (with-window (desk-of s p) n (painted (window (desk-of s p) n) (paint (window (desk-of s p) n .dots))), (c, done) ∷ []) → taken (sizes-of z) (desk-of s p) e ≡ true →
     Carried (sizes-of z) e s p s q (answered c true)
 unfolding with-window
-painted-carried z e s p q c n w paint g o v h d =
+painted-carried z e s p q c n w paint g o v h d k =
     let os = slots-of (s .stack) in
     let st = begins-at 0 n os w (g .packed) o in
     let pk = packed-same 0 os (g .packed) in
@@ -76,8 +77,8 @@ painted-carried z e s p q c n w paint g o v h d =
     ap (set (map (view p) os) n) (view-by p q w paint h) in
     let ws : windows-of (s .stack) q ≡ set (windows-of (s .stack) p) n (painted (window (desk-of s p) n) (paint (window (desk-of s p) n .dots))) =
     vs ∙ ap (λ (u : desk.Window). set (windows-of (s .stack) p) n (painted u (paint (u .dots)))) (sym v) in
-    carried z e s s p q (answered c true) g (h .len) refl (g .packed)
-    (ap (λ us. desk-with (desk-of s p) us (desk-of s p .order)) ws ∙ ap (λ (r : Desk × List (ℕ × Word)). r .0) (sym d)) (ap (λ (r : Desk × List (ℕ × Word)). r .1) (sym d))
+    carried-to z e s s p q (answered c true) g (h .len) refl (g .packed)
+    (ap (λ us. desk-with (desk-of s p) us (desk-of s p .order)) ws ∙ ap (λ (r : Desk × List (ℕ × Word)). r .0) (sym d)) (ap (λ (r : Desk × List (ℕ × Word)). r .1) (sym d)) (λ f. absurd (both-ways _ f k))
 
 -- a box that lies in a window lies in its picture
 pub record Boxed (w : Window) (x y a b : ℕ) : Type 0 where
@@ -122,27 +123,27 @@ module _ (z : Sizes) (s : State) (p q : List ℕ) (c n : ℕ) (w : Window) (pic 
 
   pub fill-carried : (x y a b colour : ℕ) (ar : Area) → box-fits (view p (Some w)) x y a b ≡ true → ar ≡ area-at x y a b → r ≡ fits pic ar (length p) → (r ≡ true → Painted pic (filled ar colour) p q) →
       Carried (sizes-of z) (fill c n x y a b colour) s p s q (answered c true)
-  unfolding does
+  unfolding does taken
   fill-carried x y a b colour ar t ea f h =
       let bx = boxed p w x y a b t in
       let ok : fits pic ar (length p) ≡ true = rw (ep, ea) (fits-yes (picture-of w) (area-at x y a b) (length p) (in-memory z s p n w g o) (bx .across) (bx .down)) in
       let d = subst (λ k. Painted k (filled (area-at x y a b) colour) p q) ep (subst (λ k. Painted pic (filled k colour) p q) ea (h (f ∙ ok))) in
-      painted-carried z (fill c n x y a b colour) s p q c n w (filled (area-at x y a b) colour) g o v d (rw (m, in-box-of x y a b t))
+      painted-carried z (fill c n x y a b colour) s p q c n w (filled (area-at x y a b) colour) g o v d (rw (m, in-box-of x y a b t)) (rw (m, in-box-of x y a b t))
 
   pub copy-carried : (x y a b i j : ℕ) (ar : Area) → box-fits (view p (Some w)) x y a b ≡ true → box-fits (view p (Some w)) i j a b ≡ true → ar ≡ area-at x y a b → r ≡ copy-fits pic ar i j (length p) →
       (r ≡ true → Painted pic (copied ar i j) p q) → Carried (sizes-of z) (copy c n x y a b i j) s p s q (answered c true)
-  unfolding does
+  unfolding does taken
   copy-carried x y a b i j ar t u ea f h =
       let bx = boxed p w x y a b t in
       let by = boxed p w i j a b u in
       let ok : copy-fits pic ar i j (length p) ≡ true =
       rw (ep, ea) (copy-fits-yes (picture-of w) (area-at x y a b) i j (length p) (in-memory z s p n w g o) (bx .across) (bx .down) (by .across) (by .down)) in
       let d = subst (λ k. Painted k (copied (area-at x y a b) i j) p q) ep (subst (λ k. Painted pic (copied k i j) p q) ea (h (f ∙ ok))) in
-      painted-carried z (copy c n x y a b i j) s p q c n w (copied (area-at x y a b) i j) g o v d (rw (m, in-box-of x y a b t, in-box-of i j a b u))
+      painted-carried z (copy c n x y a b i j) s p q c n w (copied (area-at x y a b) i j) g o v d (rw (m, in-box-of x y a b t, in-box-of i j a b u)) (rw (m, in-box-of x y a b t, in-box-of i j a b u))
 
   pub put-carried : (x y : ℕ) (bs : List ℕ) (l : Part) → box-fits (view p (Some w)) x y (l .count) 1 ≡ true → lies 4 bs l ≡ true → r ≡ put-fits pic (span-at x y (l .count)) (length p) (l .from) (length bs) →
       (r ≡ true → Painted pic (put-in x y (colours-in bs (l .from) (l .count))) p q) → Carried (sizes-of z) (put c n x y (part 4 bs l)) s p s q (answered c true)
-  unfolding does
+  unfolding does taken
   put-carried x y bs l t e f h =
       let bx = boxed p w x y (l .count) 1 t in
       let ok : put-fits pic (span-at x y (l .count)) (length p) (l .from) (length bs) ≡ true =
@@ -150,4 +151,4 @@ module _ (z : Sizes) (s : State) (p q : List ℕ) (c n : ℕ) (w : Window) (pic 
       let d = subst (λ k. Painted k (put-in x y (part 4 bs l)) p q) ep (subst (λ k. Painted pic (put-in x y k) p q) (colours-part bs l) (h (f ∙ ok))) in
       let n1 = length-numbers 4 (l .count) (drop (l .from) bs) in
       let t′ : box-fits (window (desk-of s p) n) x y (length (part 4 bs l)) 1 ≡ true = ap (λ k. box-fits (window (desk-of s p) n) x y k 1) n1 ∙ in-box-of x y (l .count) 1 t in
-      painted-carried z (put c n x y (part 4 bs l)) s p q c n w (put-in x y (part 4 bs l)) g o v d (rw (m, t′))
+      painted-carried z (put c n x y (part 4 bs l)) s p q c n w (put-in x y (part 4 bs l)) g o v d (rw (m, t′)) (rw (m, t′))
