@@ -1,4 +1,6 @@
 // What is sent after an event, and the screen that it is sent to.
+#![tactic(auto)]
+
 pub mod apply;
 mod cells;
 mod edges;

@@ -1,4 +1,6 @@
 // The desk: the plain description as a program. It carries out one event after another and looks at every window for every dot.
+#![tactic(auto)]
+
 mod told;
 
 use desktop::carry::carry_out;

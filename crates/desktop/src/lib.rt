@@ -1,4 +1,6 @@
 // Events carried out on the state of a desk and its pictures. Nothing here is clever: what is seen is found dot by dot.
+#![tactic(auto)]
+
 pub mod carry;
 pub mod gaps;
 pub mod laws;

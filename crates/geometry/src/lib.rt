@@ -1,5 +1,7 @@
 // Boxes of dots, and windows at signed places clipped to the screen.
 // A dot is its column i and its row j, both counted from 0 at the upper left.
+#![tactic(auto)]
+
 ghost use Rattle.std.specs.Prelude.{◌≡◌, ℕ, ◌+◌, ◌-◌, ◌<◌, ◌≤◌, ◌&&◌, pos, ◌+ℤ◌, int_le, int_lt, nat_le, nat_lt};
 ghost use Rattle.model.specs.Desk.{clamp};
 ghost use Rattle.geometry.specs.Boxes.{in_rect, on_screen, in_placed, Neat, Touching, Empty};

@@ -1,4 +1,6 @@
 // Sizes of a desk, what lent memory they want, what is refused and by which numbers, and the state of a desk.
+#![tactic(auto)]
+
 pub mod budget;
 mod bytes;
 mod clip;

@@ -1,5 +1,7 @@
 // The desk: what a window system has to do, as definitions (specs/), and the theorems about them.
 // Each function below does nothing but carry a theorem as its contract: the crate is not proved unless the theorem is.
+#![tactic(auto)]
+
 ghost use Rattle.model.specs.Promise.{KeysTo, HeldBy, Ordered, ByOwner, ByPaint, Unseen};
 ghost use Rattle.model.specs.Grid.{grid, FewBoxes};
 ghost use Rattle.model.specs.Kept.{EveryCover, Simulation, UnseenOf};

@@ -1,5 +1,7 @@
 // Pictures, all of them in one lent slice of dots: painting in one, making it blank, moving it in the slice, and reading it.
 // A request that does not fit is answered with false, and changes nothing.
+#![tactic(auto)]
+
 ghost use Rattle.std.specs.Prelude.{◌≡◌, ◌+◌, ◌-◌, ◌*◌, ◌^◌, ◌<◌, ◌≤◌, true, false, length, slice_index};
 ghost use Rattle.std.specs.Option.{SomeIff};
 ghost use Rattle.pixels.specs.Runs.{Changed, run_fits, shift_fits};

@@ -1,4 +1,6 @@
 // Events and words in bytes: readers, writers, and what ties them.
+#![tactic(auto)]
+
 ghost use Rattle.std.specs.Prelude.{◌≡◌, true, false, ◌&&◌, length, Some, None, nat_lt, slice_index};
 ghost use Rattle.protocol.specs.Added.{Wrote};
 ghost use Rattle.protocol.specs.Formats.{read_event, read_told, encode, encode_word};

@@ -1,5 +1,7 @@
 // Regions: sets of dots of the desk as boxes that do not overlap, in one canonical form, so that equal sets are equal words.
 // In memory a box is two words, left + 65536 · top and right + 65536 · below; a region is a slice of these.
+#![tactic(auto)]
+
 ghost use Rattle.std.specs.Prelude.{◌≡◌, ℕ, ◌+◌, ◌-◌, ◌*◌, ◌/◌, ◌%◌, ◌^◌, ◌<◌, ◌≤◌, min, true, false, [], ◌∷◌, length, take, drop, if◌then◌else◌, Decides, MatchOption, nat_eq, slice_index_or, slice_set};
 ghost use Rattle.geometry.specs.Boxes.{blank};
 ghost use Rattle.region.specs.Edges.{Between, inside};

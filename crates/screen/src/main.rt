@@ -1,5 +1,7 @@
 // The screen: a window system over the bytes of events, and a screen that is fed by what it sends.
 // So far it takes no events.
+#![tactic(auto)]
+
 use anyhow::anyhow;
 use layout::sizes::Sizes;
 use std::io::Read;

@@ -1,4 +1,6 @@
 // Events as lines of text to their bytes, and with -d back.
+#![tactic(auto)]
+
 mod events;
 mod fields;
 mod kinds;

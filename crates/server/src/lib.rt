@@ -1,4 +1,6 @@
 // The window system on lent memory: a start, calls with events, and each program's own words.
+#![tactic(auto)]
+
 mod begin;
 mod call;
 mod laws;
