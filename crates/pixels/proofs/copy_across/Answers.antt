@@ -5,5 +5,5 @@ use Rattle.pixels.proofs.copy_across.Goals as goal
 
 pub returns : goal.returns
 returns c =
-    changed-part c.args.to c.args.count _ (λ k. get_or c.args.dots.now (c.args.from + (k - c.args.to)) 0) c.args.out.now c.copy-from-slice.new.self (omega arith) (search (rules, places)) (omega arith)
+    changed-part c.args.to c.args.count _ (λ k. get_or c.args.dots.now (c.args.from + (k - c.args.to)) 0) c.args.out.now c.copy_from_slice.new.self (omega arith) (search (rules, places)) (omega arith)
     (λ k h. search (rules, places))

@@ -11,8 +11,8 @@ returns-then-i-picture c =
     (elim c.then-i-picture.either [ inl h ↦ inl (omega arith) | inr h ↦ inr (omega arith) ]))
 
 -- no slice has so many dots
-pub returns-in-default : goal.returns-in-default
-returns-in-default c =
+pub returns-in_default : goal.returns-in_default
+returns-in_default c =
     let h : length c.args.pictures.now ≤ place c.args.picture.at c.args.picture.wide c.args.i c.args.j =
     elim (cases_lt (place c.args.picture.at c.args.picture.wide c.args.i c.args.j) (2 ^ 64)) [ inl l ↦ absurd (c.in-default.ensures l) | inr l ↦ omega arith ] in
     sym (dot-inside c.args.pictures.now c.args.picture.at c.args.picture.wide c.args.picture.high c.args.i c.args.j (omega arith) (omega arith)

@@ -8,9 +8,9 @@ pub loop-r-preserved : goal.loop-r-preserved
 loop-r-preserved c =
     let h = fits-parts c.args.picture c.args.area (length c.args.pictures.now) c.requires in
     rows_more c.args.picture.at c.args.picture.wide c.args.picture.high c.args.area.x c.args.area.wide c.args.area.y c.loop-r.r c.args.area.y (c.loop-r.r + 1) (c.args.area.y + c.loop-r.r)
-    (λ _ _. c.args.colour) (λ _. c.args.colour) c.args.pictures.now c.loop-r.pictures c.fill-row.new.pictures
+    (λ _ _. c.args.colour) (λ _. c.args.colour) c.args.pictures.now c.loop-r.pictures c.fill_row.new.pictures
     (omega arith) (omega arith) (run-next c.args.area.y c.loop-r.r) c.loop-r.invariant
-    c.fill-row.ensures (λ i a b. refl)
+    c.fill_row.ensures (λ i a b. refl)
 
 pub returns : goal.returns
 returns c =

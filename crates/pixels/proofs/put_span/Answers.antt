@@ -10,5 +10,5 @@ pub returns : goal.returns
 returns c =
     let h = fits-parts c.args.picture (area_of c.args.span) (length c.args.pictures.now) (and_parts _ _ c.requires).0 in
     let l = colours-length c.args.call.now c.args.from c.args.span.wide in
-    put-painted c.args.picture c.args.span.x c.args.span.y (colours_in c.args.call.now c.args.from c.args.span.wide) c.args.pictures.now c.put-run.new.dots
-    (omega arith) (omega arith) (rw l (rw c.place-start.ensures.value at c.put-run.ensures))
+    put-painted c.args.picture c.args.span.x c.args.span.y (colours_in c.args.call.now c.args.from c.args.span.wide) c.args.pictures.now c.put_run.new.dots
+    (omega arith) (omega arith) (rw l (rw c.place-start.ensures.value at c.put_run.ensures))

@@ -9,10 +9,10 @@ use Rattle.protocol.proofs.read.Goals as goal
 pub returns : goal.returns
 returns c =
     let bs = c.args.call.now in
-    let b : Bytes bs = λ i. omega (arith, c.type-inv.call i) in
-    let v : said bs c.read-kind.result ≡ read_event (built_of c.args.kinds) c.args.programs bs c.args.at = search rules in
+    let b : Bytes bs = λ i. omega (arith, c.ok.call i) in
+    let v : said bs c.read_kind.result ≡ read_event (built_of c.args.kinds) c.args.programs bs c.args.at = search rules in
     record {
       value = v;
-      ends = event-ends (built_of c.args.kinds) c.args.programs bs c.args.at b c.read-kind.result v;
-      had = read-had (built_of c.args.kinds) c.args.programs bs c.args.at b c.read-kind.result v c.read-kind.ensures.had;
+      ends = event-ends (built_of c.args.kinds) c.args.programs bs c.args.at b c.read_kind.result v;
+      had = read-had (built_of c.args.kinds) c.args.programs bs c.args.at b c.read_kind.result v c.read_kind.ensures.had;
     }

@@ -10,6 +10,6 @@ returns c =
     let s = drop f c.args.source.now in
     let l : length (take n s) ≡ n = simp (length-take, length-drop) (omega arith) in
     record {
-      added = added-part c.args.at n _ _ (take n s) _ (omega arith) l (omega arith) (c.copy-from-slice.ensures.after ∙ ap (λ m. take m s) (omega arith));
+      added = added-part c.args.at n _ _ (take n s) _ (omega arith) l (omega arith) (c.copy_from_slice.ensures.after ∙ ap (λ m. take m s) (omega arith));
       to = refl;
     }

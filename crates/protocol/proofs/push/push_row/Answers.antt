@@ -13,12 +13,12 @@ returns c =
     let xs = drop from src in
     record {
       added = λ w e.
-          let b : Bytes src = λ i. omega (arith, c.type-inv.source i) in
+          let b : Bytes src = λ i. omega (arith, c.ok.source i) in
           let l : w * n ≤ length xs = simp length-drop (omega arith) in
           let d : take c.args.size xs ≡ all_digits w (numbers w n xs) =
           ap (λ m. take m xs) e ∙ sym (all-digits-numbers w n xs l (bytes_drop from src b)) in
           let k : digits 2 n ≡ digits 2 (length (numbers w n xs)) = ap (digits 2) (sym (length-numbers w n xs)) in
           added-as _ _ _ _ _ _ (ap (λ t. t ++ take c.args.size xs) k ∙ ap (λ t. digits 2 (length (numbers w n xs)) ++ t) d)
-          (added_then _ _ _ _ _ _ _ _ c.push-two-at.ensures.added c.push-part.ensures.added);
+          (added_then _ _ _ _ _ _ _ _ c.push_two-at.ensures.added c.push_part.ensures.added);
       to = omega arith;
     }

@@ -8,4 +8,4 @@ returns c =
     let fx = c.ranges.x in
     let fy = c.ranges.y in
     wrote _ _ 11 _ _ _ (search rules) refl
-    (added_then _ _ _ _ _ _ _ _ c.push-at.ensures.added (added_then _ _ _ _ _ _ _ _ c.push-at-2.ensures.added (added_then _ _ _ _ _ _ _ _ c.push-at-3.ensures.added (added_then _ _ _ _ _ _ _ _ (simp to_z-of_z at c.push-far-at.ensures.added) (added-last _ _ _ _ _ (simp to_z-of_z at c.push-far.ensures.added))))))
+    (added_then _ _ _ _ _ _ _ _ c.push-at.ensures.added (added_then _ _ _ _ _ _ _ _ c.push-at-2.ensures.added (added_then _ _ _ _ _ _ _ _ c.push-at-3.ensures.added (added_then _ _ _ _ _ _ _ _ (simp to_z-of_z at c.push_far-at.ensures.added) (added-last _ _ _ _ _ (simp to_z-of_z at c.push_far.ensures.added))))))

@@ -5,4 +5,4 @@ use Rattle.protocol.proofs.write.write_fill.Goals as goal
 pub returns : goal.returns
 returns c =
     wrote _ _ 15 _ _ _ (search rules) refl
-    (added_then _ _ _ _ _ _ _ _ c.push-at.ensures.added (added_then _ _ _ _ _ _ _ _ c.push-at-2.ensures.added (added_then _ _ _ _ _ _ _ _ c.push-at-3.ensures.added (added_then _ _ _ _ _ _ _ _ c.push-two-at.ensures.added (added_then _ _ _ _ _ _ _ _ c.push-two-at-2.ensures.added (added_then _ _ _ _ _ _ _ _ c.push-two-at-3.ensures.added (added_then _ _ _ _ _ _ _ _ c.push-two-at-4.ensures.added (added-last _ _ _ _ _ c.push-four.ensures.added))))))))
+    (added_then _ _ _ _ _ _ _ _ c.push-at.ensures.added (added_then _ _ _ _ _ _ _ _ c.push-at-2.ensures.added (added_then _ _ _ _ _ _ _ _ c.push-at-3.ensures.added (added_then _ _ _ _ _ _ _ _ c.push_two-at.ensures.added (added_then _ _ _ _ _ _ _ _ c.push_two-at-2.ensures.added (added_then _ _ _ _ _ _ _ _ c.push_two-at-3.ensures.added (added_then _ _ _ _ _ _ _ _ c.push_two-at-4.ensures.added (added-last _ _ _ _ _ c.push_four.ensures.added))))))))

@@ -8,4 +8,4 @@ returns c =
     let fx = c.ranges.x in
     let fy = c.ranges.y in
     wrote _ _ 10 _ _ _ (search rules) refl
-    (added_then _ _ _ _ _ _ _ _ c.push-at.ensures.added (added_then _ _ _ _ _ _ _ _ c.push-at-2.ensures.added (added_then _ _ _ _ _ _ _ _ (simp to_z-of_z at c.push-near-at.ensures.added) (added_then _ _ _ _ _ _ _ _ (simp to_z-of_z at c.push-near-at-2.ensures.added) (added_then _ _ _ _ _ _ _ _ c.push-two-at.ensures.added (added-last _ _ _ _ _ c.push-two.ensures.added))))))
+    (added_then _ _ _ _ _ _ _ _ c.push-at.ensures.added (added_then _ _ _ _ _ _ _ _ c.push-at-2.ensures.added (added_then _ _ _ _ _ _ _ _ (simp to_z-of_z at c.push_near-at.ensures.added) (added_then _ _ _ _ _ _ _ _ (simp to_z-of_z at c.push_near-at-2.ensures.added) (added_then _ _ _ _ _ _ _ _ c.push_two-at.ensures.added (added-last _ _ _ _ _ c.push_two.ensures.added))))))

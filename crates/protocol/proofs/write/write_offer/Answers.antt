@@ -20,4 +20,4 @@ returns c =
     let lie : lies 1 c.args.source.now c.args.bytes ≡ c.room.result = let one : 1 * c.args.bytes.count ≡ c.args.bytes.count = omega arith in ap (λ m. leb (c.args.bytes.from + m) (length c.args.source.now)) one ∙ sym c.room.ensures in
     wrote-row (lies 1 c.args.source.now c.args.bytes) c.args.at _ (4 + c.args.bytes.count) (line 8 c.args.program (part 1 c.args.source.now c.args.bytes)) _ _ (lie ∙ c.if-not-room.false) (sym c.room-2.ensures ∙ c.if-not-room-2.false)
     (omega (arith, length-row 1 c.args.bytes.count (drop c.args.bytes.from c.args.source.now)))
-    (added_then _ _ _ _ _ _ _ _ c.push-at.ensures.added (added_then _ _ _ _ _ _ _ _ c.push-at-2.ensures.added (added-last _ _ _ _ _ (c.push-row.ensures.added 1 (omega arith)))))
+    (added_then _ _ _ _ _ _ _ _ c.push-at.ensures.added (added_then _ _ _ _ _ _ _ _ c.push-at-2.ensures.added (added-last _ _ _ _ _ (c.push_row.ensures.added 1 (omega arith)))))

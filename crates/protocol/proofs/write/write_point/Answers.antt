@@ -8,4 +8,4 @@ returns c =
     let fx = c.ranges.x in
     let fy = c.ranges.y in
     wrote _ _ 5 _ _ _ (search rules) refl
-    (added_then _ _ _ _ _ _ _ _ c.push-at.ensures.added (added_then _ _ _ _ _ _ _ _ (simp to_z-of_z at c.push-near-at.ensures.added) (added-last _ _ _ _ _ (simp to_z-of_z at c.push-near.ensures.added))))
+    (added_then _ _ _ _ _ _ _ _ c.push-at.ensures.added (added_then _ _ _ _ _ _ _ _ (simp to_z-of_z at c.push_near-at.ensures.added) (added-last _ _ _ _ _ (simp to_z-of_z at c.push_near.ensures.added))))

@@ -20,4 +20,4 @@ returns c =
     let lie : lies 4 c.args.source.now c.args.colours ≡ c.room.result = sym c.room.ensures in
     wrote-row (lies 4 c.args.source.now c.args.colours) c.args.at _ (9 + 4 * c.args.colours.count) (line 6 c.args.program c.args.window c.args.x c.args.y (part 4 c.args.source.now c.args.colours)) _ _ (lie ∙ c.if-not-room.false) (sym c.room-2.ensures ∙ c.if-not-room-2.false)
     (omega (arith, length-row 4 c.args.colours.count (drop c.args.colours.from c.args.source.now)))
-    (added_then _ _ _ _ _ _ _ _ c.push-at.ensures.added (added_then _ _ _ _ _ _ _ _ c.push-at-2.ensures.added (added_then _ _ _ _ _ _ _ _ c.push-at-3.ensures.added (added_then _ _ _ _ _ _ _ _ c.push-two-at.ensures.added (added_then _ _ _ _ _ _ _ _ c.push-two-at-2.ensures.added (added-last _ _ _ _ _ (c.push-row.ensures.added 4 (refl))))))))
+    (added_then _ _ _ _ _ _ _ _ c.push-at.ensures.added (added_then _ _ _ _ _ _ _ _ c.push-at-2.ensures.added (added_then _ _ _ _ _ _ _ _ c.push-at-3.ensures.added (added_then _ _ _ _ _ _ _ _ c.push_two-at.ensures.added (added_then _ _ _ _ _ _ _ _ c.push_two-at-2.ensures.added (added-last _ _ _ _ _ (c.push_row.ensures.added 4 (refl))))))))

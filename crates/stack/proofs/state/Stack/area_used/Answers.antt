@@ -9,7 +9,7 @@ loop-n-preserved c =
     let l = length-slots c.args.self.now in (
       λ p.
           let e = area-step p (slots_of c.args.self.now) c.loop-n.n c.slot.result (omega arith) c.slot.ensures in
-          omega (arith, c.loop-n.invariant.0 p, c.dots-in-sum.ensures.value p),
+          omega (arith, c.loop-n.invariant.0 p, c.dots_in-sum.ensures.value p),
       omega arith,
     )
 

@@ -5,9 +5,9 @@ use Rattle.stack.proofs.Slots.{slot-low}
 use Rattle.stack.proofs.Fronts.{front-step}
 use Rattle.stack.proofs.state.Stack.front_window.Goals as goal
 
-pub loop-i-preserved-in-default : goal.loop-i-preserved-in-default
+pub loop-i-preserved-in_default : goal.loop-i-preserved-in_default
 unfolding in_window
-loop-i-preserved-in-default c d p h =
+loop-i-preserved-in_default c d p h =
     let fx = c.ranges.x in
     let fy = c.ranges.y in
     let s = front-step d c.args.self.now.order c.loop-i.i c.args.x c.args.y nothing false (search rules) (search rules) (c.in-default.ensures.value d p h) refl in

@@ -3,8 +3,8 @@ use Rattle.std.proofs.lemmas.Bool.{eq-eqb, ne_eqb}
 use Rattle.stack.proofs.Slots.{mine-by, slot-low}
 use Rattle.stack.proofs.state.Stack.owned.Goals as goal
 
-pub returns-in-default : goal.returns-in-default
-returns-in-default c d p h = mine-by d _ _ _ (c.in-default.ensures.value d p h)
+pub returns-in_default : goal.returns-in_default
+returns-in_default c d p h = mine-by d _ _ _ (c.in-default.ensures.value d p h)
 
 pub returns-then-w-c : goal.returns-then-w-c
 returns-then-w-c c =

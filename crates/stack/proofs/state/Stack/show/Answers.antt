@@ -4,8 +4,8 @@ use Rattle.stack.specs.View.{put_on}
 use Rattle.stack.proofs.Changed.{unchanged, slots-by, windows-by, show-by}
 use Rattle.stack.proofs.state.Stack.show.Goals as goal
 
-pub returns-in-default : goal.returns-in-default
-returns-in-default c =
+pub returns-in_default : goal.returns-in_default
+returns-in_default c =
     let e = c.in-default.ensures in
     record { answer = λ d p h. sym (e d p h); windows = λ d p h. unchanged d _ _ _ _ (e d p h) h; slots = refl; order = refl; limit = refl }
 
@@ -16,7 +16,7 @@ returns c =
     let fx : SFits w16 c.in-Some.w.x = search rules in
     let fy : SFits w16 c.in-Some.w.y = search rules in
     let o = c.in-Some.ensures in
-    let f = c.set-window.ensures in
+    let f = c.set_window.ensures in
     let e = simp to_z-of_z at f.slots in
     record {
       answer = λ d p h. sym (o.mine d p h);
