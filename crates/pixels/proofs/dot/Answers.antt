@@ -14,7 +14,7 @@ returns-then-i-picture c =
 pub returns-in_default : goal.returns-in_default
 returns-in_default c =
     let h : length c.args.pictures.now ≤ place c.args.picture.at c.args.picture.wide c.args.i c.args.j =
-    elim (cases_lt (place c.args.picture.at c.args.picture.wide c.args.i c.args.j) (2 ^ 64)) [ inl l ↦ absurd (c.in-default.ensures l) | inr l ↦ omega arith ] in
+    elim (cases_lt (place c.args.picture.at c.args.picture.wide c.args.i c.args.j) (2 ^ 64)) [ inl l ↦ absurd (c.in_default.ensures l) | inr l ↦ omega arith ] in
     sym (dot-inside c.args.pictures.now c.args.picture.at c.args.picture.wide c.args.picture.high c.args.i c.args.j (omega arith) (omega arith)
     ∙ get_or_past c.args.pictures.now (place c.args.picture.at c.args.picture.wide c.args.i c.args.j) 0 h)
 

@@ -9,7 +9,7 @@ use Rattle.protocol.proofs.read.Goals as goal
 pub returns : goal.returns
 returns c =
     let bs = c.args.call.now in
-    let b : Bytes bs = λ i. omega (arith, c.ok.call i) in
+    let b : Bytes bs = λ i. omega (arith, c.type_inv.call i) in
     let v : said bs c.read_kind.result ≡ read_event (built_of c.args.kinds) c.args.programs bs c.args.at = search rules in
     record {
       value = v;

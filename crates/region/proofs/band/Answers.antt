@@ -16,7 +16,7 @@ returns-then-p-a c =
 
 pub returns-then-y-first : goal.returns-then-y-first
 returns-then-y-first c =
-    let e : c.rect-at-first.result.top ≡ (get_or (rects c.args.a.now) c.args.p blank).top = ap (λ (r : Rect). r.top) c.rect-at-first.ensures in
+    let e : c.rect_at-first.result.top ≡ (get_or (rects c.args.a.now) c.args.p blank).top = ap (λ (r : Rect). r.top) c.rect_at-first.ensures in
     record {
       slab =
           subst (λ (z : ℕ). Slab (rects c.args.a.now) c.args.p c.args.y c.args.p z) (sym e)
@@ -26,11 +26,11 @@ returns-then-y-first c =
 
 pub returns : goal.returns
 returns c =
-    let e : c.rect-at-first.result.top ≡ (get_or (rects c.args.a.now) c.args.p blank).top = ap (λ (r : Rect). r.top) c.rect-at-first.ensures in
-    let f : c.rect-at-first.result.below ≡ (get_or (rects c.args.a.now) c.args.p blank).below = ap (λ (r : Rect). r.below) c.rect-at-first.ensures in
-    let g : c.band-end.result ≡ c.args.p + leading (get_or (rects c.args.a.now) c.args.p blank).top (drop c.args.p (rects c.args.a.now)) =
-    c.band-end.ensures ∙ ap (λ (z : ℕ). c.args.p + leading z (drop c.args.p (rects c.args.a.now))) e in
-    let s : Slab (rects c.args.a.now) c.args.p c.args.y c.band-end.result c.rect-at-first.result.below =
+    let e : c.rect_at-first.result.top ≡ (get_or (rects c.args.a.now) c.args.p blank).top = ap (λ (r : Rect). r.top) c.rect_at-first.ensures in
+    let f : c.rect_at-first.result.below ≡ (get_or (rects c.args.a.now) c.args.p blank).below = ap (λ (r : Rect). r.below) c.rect_at-first.ensures in
+    let g : c.band_end.result ≡ c.args.p + leading (get_or (rects c.args.a.now) c.args.p blank).top (drop c.args.p (rects c.args.a.now)) =
+    c.band_end.ensures ∙ ap (λ (z : ℕ). c.args.p + leading z (drop c.args.p (rects c.args.a.now))) e in
+    let s : Slab (rects c.args.a.now) c.args.p c.args.y c.band_end.result c.rect_at-first.result.below =
     subst₂ (λ (u v : ℕ). Slab (rects c.args.a.now) c.args.p c.args.y u v) (sym g) (sym f)
     (slab-band (rects c.args.a.now) c.args.p c.args.y c.requires (omega (arith, length-rects c.args.a.now)) (omega (arith, e, c.if-y-first.false))) in
     record { slab = s; within = (s.first, omega (arith, s.last, length-rects c.args.a.now)) }

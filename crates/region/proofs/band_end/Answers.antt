@@ -10,7 +10,7 @@ run-preserved c = (
   omega arith,
   omega (
     arith,
-    leading-here c.args.top (rects c.args.a.now) c.run.end (omega (arith, length-rects c.args.a.now)) (sym (ap (λ (r : Rect). r.top) c.rect-at-r.ensures) ∙ c.if-r-top.false),
+    leading-here c.args.top (rects c.args.a.now) c.run.end (omega (arith, length-rects c.args.a.now)) (sym (ap (λ (r : Rect). r.top) c.rect_at-r.ensures) ∙ c.if-r-top.false),
   ),
 )
 
@@ -19,7 +19,7 @@ returns-then-r-top c =
     omega (
       arith,
       c.run.invariant.1,
-      leading-stop c.args.top (rects c.args.a.now) c.run.end (omega (arith, length-rects c.args.a.now)) (λ e. c.if-r-top.true (ap (λ (r : Rect). r.top) c.rect-at-r.ensures ∙ e)),
+      leading-stop c.args.top (rects c.args.a.now) c.run.end (omega (arith, length-rects c.args.a.now)) (λ e. c.if-r-top.true (ap (λ (r : Rect). r.top) c.rect_at-r.ensures ∙ e)),
     )
 
 pub returns : goal.returns

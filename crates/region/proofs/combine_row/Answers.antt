@@ -60,14 +60,14 @@ passed-p-requires c = omega (arith, count 0 (edges (rects c.args.a.now)) 4097 c.
 pub passed-q-requires : goal.passed-q-requires
 passed-q-requires c = omega (arith, count 0 (edges (rects c.args.b.now)) 4097 c.requires.right)
 
-pub put-edge-requires : goal.put-edge-requires
-put-edge-requires c =
+pub put_edge-requires : goal.put_edge-requires
+put_edge-requires c =
     let t : Turn (edges (rects c.args.a.now)) (edges (rects c.args.b.now)) c.sweep.p c.sweep.q c.passed-p.result c.passed-q.result c.min-x.result c.sweep.invariant.0.at =
     turn _ _ _ _ _ _ _ _ _ _ c.requires.left c.requires.right c.sweep.invariant.0 (c.min-x.ensures ∙ ap₂ min c.edge.ensures c.edge-in-sweep.ensures) c.if-x.false c.passed-p.ensures c.passed-q.ensures in
     omega (arith, t.on, t.a.within, t.b.within, length-edges (rects c.args.a.now), length-edges (rects c.args.b.now), length-rects c.args.out.now, length-rects c.sweep.out, c.requires.room, c.sweep.auto.out)
 
-pub overflow-add-n : goal.overflow-add-n
-overflow-add-n c = omega (arith, count 0 (edges (rects c.args.a.now)) 4097 c.requires.left, count 0 (edges (rects c.args.b.now)) 4097 c.requires.right)
+pub overflow_add-n : goal.overflow_add-n
+overflow_add-n c = omega (arith, count 0 (edges (rects c.args.a.now)) 4097 c.requires.left, count 0 (edges (rects c.args.b.now)) 4097 c.requires.right)
 
 pub sweep-smaller-then-inside-n : goal.sweep-smaller-then-inside-n
 sweep-smaller-then-inside-n c =
@@ -86,7 +86,7 @@ sweep-preserved-then-inside-n c =
     × Rows c.args.top c.args.below (take ((c.sweep.n + 1 + 1) / 2) o)
     × (drop ((c.sweep.n + 1 + 1) / 2) o ≡ drop ((c.sweep.n + 1 + 1) / 2) (rects c.args.out.now)) in
     let fits : c.sweep.n + 1 ≤ length (edges new) = simp (length-edges, length-set) (omega arith) in
-    subst P (sym c.put-edge.ensures) (
+    subst P (sym c.put_edge.ensures) (
       at-write _ _ _ _ (edges new) _ _ _ _ _ _ c.sweep.invariant.0 t.a t.b t.from t.low (λ e. differ _ _ c.if-inside-n.true (e ∙ sym c.holds-inside.ensures))
           (edges_placed (rects c.sweep.out) c.sweep.n c.min-x.result c.args.top c.args.below room) t.on fits,
       rows-placed (rects c.sweep.out) c.sweep.n c.min-x.result c.args.top c.args.below room c.sweep.invariant.1,

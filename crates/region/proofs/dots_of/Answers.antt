@@ -4,13 +4,13 @@ use Rattle.region.proofs.Wording.{length-rects}
 use Rattle.region.proofs.Measuring.{area-step, area-less, area-none}
 use Rattle.region.proofs.dots_of.Goals as goal
 
-pub overflow-add-n : goal.overflow-add-n
-overflow-add-n c =
+pub overflow_add-n : goal.overflow_add-n
+overflow_add-n c =
     omega (
       arith,
       c.each.invariant,
       area-less (rects c.args.a.now) c.requires,
-      area-step (rects c.args.a.now) c.each.i c.rect-at-r.result (omega (arith, length-rects c.args.a.now)) c.rect-at-r.ensures c.wide.result c.high.result c.wide.ensures c.high.ensures,
+      area-step (rects c.args.a.now) c.each.i c.rect_at-r.result (omega (arith, length-rects c.args.a.now)) c.rect_at-r.ensures c.wide.result c.high.result c.wide.ensures c.high.ensures,
     )
 
 pub each-preserved : goal.each-preserved
@@ -18,7 +18,7 @@ each-preserved c =
     omega (
       arith,
       c.each.invariant,
-      area-step (rects c.args.a.now) c.each.i c.rect-at-r.result (omega (arith, length-rects c.args.a.now)) c.rect-at-r.ensures c.wide.result c.high.result c.wide.ensures c.high.ensures,
+      area-step (rects c.args.a.now) c.each.i c.rect_at-r.result (omega (arith, length-rects c.args.a.now)) c.rect_at-r.ensures c.wide.result c.high.result c.wide.ensures c.high.ensures,
     )
 
 pub returns : goal.returns

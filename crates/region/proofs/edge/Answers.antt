@@ -13,10 +13,10 @@ returns-then-k-a c = sym (get_or_past (edges (rects c.args.a.now)) c.args.k none
 
 pub returns-then-k-eq0 : goal.returns-then-k-eq0
 returns-then-k-eq0 c =
-    ap (λ (r : Rect). r.left) c.rect-at-r.ensures
+    ap (λ (r : Rect). r.left) c.rect_at-r.ensures
     ∙ at-even (rects c.args.a.now) c.args.k none blank c.if-k-eq0.true (omega (arith, length-rects c.args.a.now))
 
 pub returns-else-k-eq0 : goal.returns-else-k-eq0
 returns-else-k-eq0 c =
-    ap (λ (r : Rect). r.right) c.rect-at-r.ensures
+    ap (λ (r : Rect). r.right) c.rect_at-r.ensures
     ∙ at-odd (rects c.args.a.now) c.args.k none blank c.if-k-eq0.false (omega (arith, length-rects c.args.a.now))

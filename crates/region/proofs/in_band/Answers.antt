@@ -9,14 +9,14 @@ use Rattle.region.proofs.in_band.Goals as goal
 pub returns-then-not-fits : goal.returns-then-not-fits
 returns-then-not-fits c =
     sym (c.each.invariant ∙ in_band-stop c.args.top c.args.below c.each.low (rects c.args.s.now) c.each.i (omega (arith, length-rects c.args.s.now))
-    (ap (fits_band c.args.top c.args.below c.each.low) (sym c.rect-at-r.ensures) ∙ (sym c.fits.ensures ∙ c.if-not-fits.true)))
+    (ap (fits_band c.args.top c.args.below c.each.low) (sym c.rect_at-r.ensures) ∙ (sym c.fits.ensures ∙ c.if-not-fits.true)))
 
 pub each-preserved : goal.each-preserved
 each-preserved c =
     c.each.invariant
     ∙ (in_band-step c.args.top c.args.below c.each.low (rects c.args.s.now) c.each.i (omega (arith, length-rects c.args.s.now))
-    (ap (fits_band c.args.top c.args.below c.each.low) (sym c.rect-at-r.ensures) ∙ (sym c.fits.ensures ∙ c.if-not-fits.false))
-    ∙ ap (λ (r : Rect). in_band c.args.top c.args.below (r.right + 1) (drop (c.each.i + 1) (rects c.args.s.now))) (sym c.rect-at-r.ensures))
+    (ap (fits_band c.args.top c.args.below c.each.low) (sym c.rect_at-r.ensures) ∙ (sym c.fits.ensures ∙ c.if-not-fits.false))
+    ∙ ap (λ (r : Rect). in_band c.args.top c.args.below (r.right + 1) (drop (c.each.i + 1) (rects c.args.s.now))) (sym c.rect_at-r.ensures))
 
 pub returns : goal.returns
 returns c = sym (c.each.invariant ∙ in_band-all c.args.top c.args.below c.each.low (rects c.args.s.now) c.each.i (omega (arith, length-rects c.args.s.now)))

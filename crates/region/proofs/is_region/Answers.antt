@@ -16,14 +16,14 @@ bands-init c = (tested-start (rects c.args.a.now), omega arith, omega arith)
 ends : (a : List ℕ) (p e t : ℕ) → e ≡ p + leading t (drop p (rects a)) → 2 * p ≤ length a → 2 * e ≤ length a
 ends a p e t q h = omega (arith, leading-short t (drop p (rects a)), length-drop p (rects a), length-rects a)
 
-pub overflow-mul-end : goal.overflow-mul-end
-overflow-mul-end c =
-    let h = ends c.args.a.now c.bands.p c.band-end-end.result c.rect-at-first.result.top c.band-end-end.ensures c.bands.invariant.2 in
+pub overflow_mul-end : goal.overflow_mul-end
+overflow_mul-end c =
+    let h = ends c.args.a.now c.bands.p c.band_end-end.result c.rect_at-first.result.top c.band_end-end.ensures c.bands.invariant.2 in
     search rules
 
-pub slice-bounds-follows-end-in-bands : goal.slice-bounds-follows-end-in-bands
-slice-bounds-follows-end-in-bands c =
-    let h = ends c.args.a.now c.bands.p c.band-end-end.result c.rect-at-first.result.top c.band-end-end.ensures c.bands.invariant.2 in
+pub slice_bounds-follows-end-in-bands : goal.slice_bounds-follows-end-in-bands
+slice_bounds-follows-end-in-bands c =
+    let h = ends c.args.a.now c.bands.p c.band_end-end.result c.rect_at-first.result.top c.band_end-end.ensures c.bands.invariant.2 in
     search rules
 
 -- the test, on boxes
@@ -35,24 +35,24 @@ pub returns-then-not-follows : goal.returns-then-not-follows
 returns-then-not-follows c = (
   (λ e. absurd (false≢true e)),
   (λ k.
-      absurd (tested-stop (rects c.args.a.now) c.bands.m c.bands.p c.bands.y c.band-end-end.result c.rect-at-first.result c.bands.invariant.0 (omega (arith, length-rects c.args.a.now)) c.rect-at-first.ensures
-      c.band-end-end.ensures (sym (on-boxes c.args.a.now c.bands.m c.bands.p c.band-end-end.result c.bands.y c.rect-at-first.result) ∙ (sym c.follows.ensures ∙ c.if-not-follows.true)) k)),
+      absurd (tested-stop (rects c.args.a.now) c.bands.m c.bands.p c.bands.y c.band_end-end.result c.rect_at-first.result c.bands.invariant.0 (omega (arith, length-rects c.args.a.now)) c.rect_at-first.ensures
+      c.band_end-end.ensures (sym (on-boxes c.args.a.now c.bands.m c.bands.p c.band_end-end.result c.bands.y c.rect_at-first.result) ∙ (sym c.follows.ensures ∙ c.if-not-follows.true)) k)),
 )
 
 pub bands-smaller : goal.bands-smaller
 bands-smaller c =
-    let h = ends c.args.a.now c.bands.p c.band-end-end.result c.rect-at-first.result.top c.band-end-end.ensures c.bands.invariant.2 in
+    let h = ends c.args.a.now c.bands.p c.band_end-end.result c.rect_at-first.result.top c.band_end-end.ensures c.bands.invariant.2 in
     omega (
       arith,
-      band-on (rects c.args.a.now) c.bands.m c.bands.p c.bands.y c.band-end-end.result c.rect-at-first.result c.bands.invariant.0 (omega (arith, length-rects c.args.a.now)) c.rect-at-first.ensures c.band-end-end.ensures,
+      band-on (rects c.args.a.now) c.bands.m c.bands.p c.bands.y c.band_end-end.result c.rect_at-first.result c.bands.invariant.0 (omega (arith, length-rects c.args.a.now)) c.rect_at-first.ensures c.band_end-end.ensures,
     )
 
 pub bands-preserved : goal.bands-preserved
 bands-preserved c =
-    let h = ends c.args.a.now c.bands.p c.band-end-end.result c.rect-at-first.result.top c.band-end-end.ensures c.bands.invariant.2 in
+    let h = ends c.args.a.now c.bands.p c.band_end-end.result c.rect_at-first.result.top c.band_end-end.ensures c.bands.invariant.2 in
     let t =
-    tested-step (rects c.args.a.now) c.bands.m c.bands.p c.bands.y c.band-end-end.result c.rect-at-first.result c.bands.invariant.0 (omega (arith, length-rects c.args.a.now)) c.rect-at-first.ensures
-    c.band-end-end.ensures (sym (on-boxes c.args.a.now c.bands.m c.bands.p c.band-end-end.result c.bands.y c.rect-at-first.result) ∙ (sym c.follows.ensures ∙ c.if-not-follows.false)) in
+    tested-step (rects c.args.a.now) c.bands.m c.bands.p c.bands.y c.band_end-end.result c.rect_at-first.result c.bands.invariant.0 (omega (arith, length-rects c.args.a.now)) c.rect_at-first.ensures
+    c.band_end-end.ensures (sym (on-boxes c.args.a.now c.bands.m c.bands.p c.band_end-end.result c.bands.y c.rect_at-first.result) ∙ (sym c.follows.ensures ∙ c.if-not-follows.false)) in
     (t, t.order, h)
 
 pub returns : goal.returns

@@ -9,16 +9,16 @@ use Rattle.region.proofs.move_boxes.Goals as goal
 pub moved-requires : goal.moved-requires
 moved-requires c = (
   subst (λ (b : Rect). Stays c.args.right c.args.left c.args.low c.args.up (b ∷ []))
-      (sym (c.rect-at-b.ensures ∙ shifted-here _ _ _ _ (rects c.each.s) (rects c.args.s.now) c.each.i c.each.invariant (omega (arith, length-rects c.args.s.now))))
+      (sym (c.rect_at-b.ensures ∙ shifted-here _ _ _ _ (rects c.each.s) (rects c.args.s.now) c.each.i c.each.invariant (omega (arith, length-rects c.args.s.now))))
       (stays_at _ _ _ _ (rects c.args.s.now) c.each.i (omega (arith, length-rects c.args.s.now)) c.requires.stays),
   c.requires.small,
 )
 
 pub each-preserved : goal.each-preserved
 each-preserved c =
-    c.put-rect.ensures.boxes
+    c.put_rect.ensures.boxes
     ∙ shifted_step _ _ _ _ (rects c.each.s) (rects c.args.s.now) c.each.i c.moved.result c.each.invariant (omega (arith, length-rects c.args.s.now))
-    (c.moved.ensures ∙ ap (shifted_one c.args.right c.args.left c.args.low c.args.up) c.rect-at-b.ensures)
+    (c.moved.ensures ∙ ap (shifted_one c.args.right c.args.left c.args.low c.args.up) c.rect_at-b.ensures)
 
 pub returns : goal.returns
 returns c = c.each.invariant ∙ shifted-all _ _ _ _ (rects c.args.s.now) c.each.i (omega (arith, length-rects c.args.s.now))

@@ -7,8 +7,8 @@ use Rattle.region.proofs.stretch.Goals as goal
 
 pub each-preserved : goal.each-preserved
 each-preserved c =
-    c.put-rect.ensures.boxes
-    ∙ (ap (λ (r : Rect). set (rects c.each.s) c.each.i (stretched-one c.args.below r)) c.rect-at-r.ensures
+    c.put_rect.ensures.boxes
+    ∙ (ap (λ (r : Rect). set (rects c.each.s) c.each.i (stretched-one c.args.below r)) c.rect_at-r.ensures
     ∙ stretched-step c.args.below (rects c.each.s) (rects c.args.s.now) c.each.i c.each.invariant (omega (arith, length-rects c.args.s.now)))
 
 pub returns : goal.returns

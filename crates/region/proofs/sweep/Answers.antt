@@ -13,7 +13,7 @@ use Rattle.region.proofs.Building.{Built, built-start, built-done, Made, added, 
 use Rattle.region.proofs.Pairs.{act-none}
 use Rattle.region.proofs.Rooming.{room}
 use Rattle.region.proofs.sweep.Goals as goal
-use Rattle.region.proofs.sweep.Goals.{then-same-row, else-same-row}
+use Rattle.region.proofs.sweep.Goals.{then-same_row, else-same_row}
 
 pub bands-init : goal.bands-init
 bands-init c = (built-start (act c.args.op) (rects c.args.a.now) (rects c.args.b.now) (rects c.args.out.now) c.requires.left c.requires.right, refl, omega arith, omega arith)
@@ -39,8 +39,8 @@ returns-then-out-n c = λ r.
       room (act c.args.op) _ _ _ _ _ _ _ _ _ _ _ _ (act-none c.args.op) c.bands.invariant.0 c.band-pe.ensures.slab c.band-qe.ensures.slab r',
     )
 
-pub combine-row-k-requires : goal.combine-row-k-requires
-combine-row-k-requires c =
+pub combine_row-k-requires : goal.combine_row-k-requires
+combine_row-k-requires c =
     let out : List ℕ = c.bands.out in
     let n : ℕ = c.bands.n in
     record {
@@ -63,48 +63,48 @@ pub few-n : (a b out : List ℕ) (p pe q qe n k : ℕ) → p ≤ pe → 2 * pe �
     k ≤ length (rects (take (2 * pe - 2 * p) (drop (2 * p) a))) + length (rects (take (2 * qe - 2 * q) (drop (2 * q) b))) → 2 * (n + k) ≤ length out
 few-n a b out p pe q qe n k h₁ h₂ h₃ h₄ h₅ h₆ h₇ = omega (arith, length_part p pe a h₁ h₂, length_part q qe b h₃ h₄)
 
-pub overflow-add-n : goal.overflow-add-n
-overflow-add-n c =
+pub overflow_add-n : goal.overflow_add-n
+overflow_add-n c =
     omega (
       arith,
-      few-n c.args.a.now c.args.b.now c.bands.out c.bands.p c.band-pe.result.0 c.bands.q c.band-qe.result.0 c.bands.n c.combine-row-k.result c.band-pe.ensures.within.0 c.band-pe.ensures.within.1
-          c.band-qe.ensures.within.0 c.band-qe.ensures.within.1 c.if-out-n.false c.bands.invariant.3 c.combine-row-k.ensures.few,
+      few-n c.args.a.now c.args.b.now c.bands.out c.bands.p c.band-pe.result.0 c.bands.q c.band-qe.result.0 c.bands.n c.combine_row-k.result c.band-pe.ensures.within.0 c.band-pe.ensures.within.1
+          c.band-qe.ensures.within.0 c.band-qe.ensures.within.1 c.if-out-n.false c.bands.invariant.3 c.combine_row-k.ensures.few,
     )
 
-pub overflow-mul-n-in-bands-3 : goal.overflow-mul-n-in-bands-3
-overflow-mul-n-in-bands-3 c =
+pub overflow_mul-n-in-bands-3 : goal.overflow_mul-n-in-bands-3
+overflow_mul-n-in-bands-3 c =
     omega (
       arith,
-      few-n c.args.a.now c.args.b.now c.bands.out c.bands.p c.band-pe.result.0 c.bands.q c.band-qe.result.0 c.bands.n c.combine-row-k.result c.band-pe.ensures.within.0 c.band-pe.ensures.within.1
-          c.band-qe.ensures.within.0 c.band-qe.ensures.within.1 c.if-out-n.false c.bands.invariant.3 c.combine-row-k.ensures.few,
+      few-n c.args.a.now c.args.b.now c.bands.out c.bands.p c.band-pe.result.0 c.bands.q c.band-qe.result.0 c.bands.n c.combine_row-k.result c.band-pe.ensures.within.0 c.band-pe.ensures.within.1
+          c.band-qe.ensures.within.0 c.band-qe.ensures.within.1 c.if-out-n.false c.bands.invariant.3 c.combine_row-k.ensures.few,
     )
 
-pub slice-bounds-same-row-end-in-bands : goal.slice-bounds-same-row-end-in-bands
-slice-bounds-same-row-end-in-bands c =
+pub slice_bounds-same_row-end-in-bands : goal.slice_bounds-same_row-end-in-bands
+slice_bounds-same_row-end-in-bands c =
     omega (
       arith,
-      few-n c.args.a.now c.args.b.now c.bands.out c.bands.p c.band-pe.result.0 c.bands.q c.band-qe.result.0 c.bands.n c.combine-row-k.result c.band-pe.ensures.within.0 c.band-pe.ensures.within.1
-          c.band-qe.ensures.within.0 c.band-qe.ensures.within.1 c.if-out-n.false c.bands.invariant.3 c.combine-row-k.ensures.few,
+      few-n c.args.a.now c.args.b.now c.bands.out c.bands.p c.band-pe.result.0 c.bands.q c.band-qe.result.0 c.bands.n c.combine_row-k.result c.band-pe.ensures.within.0 c.band-pe.ensures.within.1
+          c.band-qe.ensures.within.0 c.band-qe.ensures.within.1 c.if-out-n.false c.bands.invariant.3 c.combine_row-k.ensures.few,
     )
 
-pub overflow-add-n-else-same-row : goal.overflow-add-n-else-same-row
-overflow-add-n-else-same-row c =
+pub overflow_add-n-else-same_row : goal.overflow_add-n-else-same_row
+overflow_add-n-else-same_row c =
     omega (
       arith,
-      few-n c.args.a.now c.args.b.now c.bands.out c.bands.p c.band-pe.result.0 c.bands.q c.band-qe.result.0 c.bands.n c.combine-row-k.result c.band-pe.ensures.within.0 c.band-pe.ensures.within.1
-          c.band-qe.ensures.within.0 c.band-qe.ensures.within.1 c.if-out-n.false c.bands.invariant.3 c.combine-row-k.ensures.few,
+      few-n c.args.a.now c.args.b.now c.bands.out c.bands.p c.band-pe.result.0 c.bands.q c.band-qe.result.0 c.bands.n c.combine_row-k.result c.band-pe.ensures.within.0 c.band-pe.ensures.within.1
+          c.band-qe.ensures.within.0 c.band-qe.ensures.within.1 c.if-out-n.false c.bands.invariant.3 c.combine_row-k.ensures.few,
     )
 
 pub bands-preserved : goal.bands-preserved
 bands-preserved c =
     let m : ℕ = c.bands.m in
     let n : ℕ = c.bands.n in
-    let k : ℕ = c.combine-row-k.result in
+    let k : ℕ = c.combine_row-k.result in
     let to : ℕ = c.min-to.result in
     let a : List Rect = rects c.args.a.now in
     let b : List Rect = rects c.args.b.now in
     let out : List ℕ = c.bands.out in
-    let ys : List ℕ = c.combine-row-k.new.out in
+    let ys : List ℕ = c.combine_row-k.new.out in
     let words₁ : List ℕ = put_mid (2 * n) (length out - 2 * n) out ys in
     let out₁ : List Rect = take n (rects out) ++ (rects ys ++ []) in
     let e₁ : rects words₁ ≡ out₁ = rects-tail n out ys c.bands.invariant.3 in
@@ -113,19 +113,19 @@ bands-preserved c =
     rects-part c.bands.p c.band-pe.result.0 c.args.a.now in
     let eB : rects (take (2 * c.band-qe.result.0 - 2 * c.bands.q) (drop (2 * c.bands.q) c.args.b.now)) ≡ take (c.band-qe.result.0 - c.bands.q) (drop c.bands.q b) =
     rects-part c.bands.q c.band-qe.result.0 c.args.b.now in
-    let rows : Rows c.bands.y to R = c.combine-row-k.ensures.rows in
-    let rises : Between 0 (edges R) 4097 = c.combine-row-k.ensures.canonical in
+    let rows : Rows c.bands.y to R = c.combine_row-k.ensures.rows in
+    let rises : Between 0 (edges R) 4097 = c.combine_row-k.ensures.canonical in
     let dots : (i : ℕ) → across R i ≡ act c.args.op (across (take (c.band-pe.result.0 - c.bands.p) (drop c.bands.p a)) i) (across (take (c.band-qe.result.0 - c.bands.q) (drop c.bands.q b)) i) =
-    λ i. c.combine-row-k.ensures.dots i ∙ ap₂ (λ (u v : List Rect). act c.args.op (across u i) (across v i)) eA eB in
-    let same : c.same-row.result ≡ same_edges (edges (take (n - m) (drop m out₁))) (edges (take (n + k - n) (drop n out₁))) =
-    c.same-row.ensures
+    λ i. c.combine_row-k.ensures.dots i ∙ ap₂ (λ (u v : List Rect). act c.args.op (across u i) (across v i)) eA eB in
+    let same : c.same_row.result ≡ same_edges (edges (take (n - m) (drop m out₁))) (edges (take (n + k - n) (drop n out₁))) =
+    c.same_row.ensures
     ∙ ap₂ (λ (u v : List Rect). same_edges (edges u) (edges v)) (rects-part m n words₁ ∙ ap (λ (z : List Rect). take (n - m) (drop m z)) e₁) (rects-part n (n + k) words₁ ∙ ap (λ (z : List Rect). take (n + k - n) (drop n z)) e₁) in
     let P : List Rect → ℕ → ℕ → Type 0 = λ o u v. Built (act c.args.op) a b o c.onward-p.result c.onward-q.result to u v in
-    let ylen : length ys ≡ length (take (length out - 2 * n) (drop (2 * n) out)) = c.combine-row-k.auto.out in
+    let ylen : length ys ≡ length (take (length out - 2 * n) (drop (2 * n) out)) = c.combine_row-k.auto.out in
     let ysize : length ys ≡ length out - 2 * n = omega (arith, ylen, length-take (length out - 2 * n) (drop (2 * n) out), length-drop (2 * n) out) in
     let fits : 2 * (n + k) ≤ length out =
-    few-n c.args.a.now c.args.b.now c.bands.out c.bands.p c.band-pe.result.0 c.bands.q c.band-qe.result.0 c.bands.n c.combine-row-k.result c.band-pe.ensures.within.0 c.band-pe.ensures.within.1
-    c.band-qe.ensures.within.0 c.band-qe.ensures.within.1 c.if-out-n.false c.bands.invariant.3 c.combine-row-k.ensures.few in
+    few-n c.args.a.now c.args.b.now c.bands.out c.bands.p c.band-pe.result.0 c.bands.q c.band-qe.result.0 c.bands.n c.combine_row-k.result c.band-pe.ensures.within.0 c.band-pe.ensures.within.1
+    c.band-qe.ensures.within.0 c.band-qe.ensures.within.1 c.if-out-n.false c.bands.invariant.3 c.combine_row-k.ensures.few in
     let long : k ≤ length (rects ys) = omega (arith, ysize, fits, length-rects ys) in
     let whole : length words₁ ≡ length out = same_len_mid (2 * n) (length out - 2 * n) out ys ylen in
     let eto : to ≡ min c.band-pe.result.1 c.band-qe.result.1 = c.min-to.ensures in
@@ -138,21 +138,21 @@ bands-preserved c =
     let rb : Rest b c.onward-q.result to = rest-on _ _ _ _ _ _ _ sb on (omega (arith, eto)) lt low c.onward-q.ensures in
     let d : Made (act c.args.op) a b R c.bands.y to =
     record { rows = rows; rises = rises; dots = λ i j l h. dots i ∙ sym (ap₂ (act c.args.op) (sa.dots i j l (omega (arith, eto, h))) (sb.dots i j l (omega (arith, eto, h)))) } in
-    let built : P (rects c.if-same-row.out) c.if-same-row.m c.if-same-row.n =
-    elim c.if-same-row.branch [
-      | then-same-row w ↦
+    let built : P (rects c.if-same_row.out) c.if-same_row.m c.if-same_row.n =
+    elim c.if-same_row.branch [
+      | then-same_row w ↦
           (let zs : List ℕ = w.stretch.new.s in
           let zlen : length zs ≡ length (take (2 * n - 2 * m) (drop (2 * m) words₁)) = w.stretch.auto.s in
           let zsize : length zs ≡ 2 * n - 2 * m = omega (arith, zlen, whole, c.bands.invariant.2, c.bands.invariant.3, length-take (2 * n - 2 * m) (drop (2 * m) words₁), length-drop (2 * m) words₁) in
-          let g : rects c.if-same-row.out ≡ take m out₁ ++ (rects zs ++ rects (post_of (2 * m) (2 * n - 2 * m) words₁)) =
+          let g : rects c.if-same_row.out ≡ take m out₁ ++ (rects zs ++ rects (post_of (2 * m) (2 * n - 2 * m) words₁)) =
           ap rects w.out-is ∙ (rects-mid m n words₁ zs c.bands.invariant.2 (omega (arith, whole, c.bands.invariant.2, c.bands.invariant.3)) zsize ∙ ap (λ (z : List Rect). take m z ++ (rects zs ++ rects (post_of (2 * m) (2 * n - 2 * m) words₁))) e₁) in
           let st : rects zs ≡ stretched to (take (n - m) (drop m out₁)) = w.stretch.ensures ∙ ap (stretched to) (rects-part m n words₁ ∙ ap (λ (z : List Rect). take (n - m) (drop m z)) e₁) in
           subst₃ P (sym g) (sym w.m-is) (sym w.n-is)
-          (merged _ _ _ (rects out) (rects ys) [] _ _ _ _ _ _ _ _ k c.bands.invariant.0 d ra rb on low long (rects zs) (rects (post_of (2 * m) (2 * n - 2 * m) words₁)) (sym same ∙ w.if-same-row.true) st))
-      | else-same-row w ↦
-          (let g : rects c.if-same-row.out ≡ out₁ = ap rects w.out-is ∙ e₁ in
+          (merged _ _ _ (rects out) (rects ys) [] _ _ _ _ _ _ _ _ k c.bands.invariant.0 d ra rb on low long (rects zs) (rects (post_of (2 * m) (2 * n - 2 * m) words₁)) (sym same ∙ w.if-same_row.true) st))
+      | else-same_row w ↦
+          (let g : rects c.if-same_row.out ≡ out₁ = ap rects w.out-is ∙ e₁ in
           subst₃ P (sym g) (sym w.m-is) (sym w.n-is)
-          (added _ _ _ (rects out) (rects ys) [] _ _ _ _ _ _ _ _ k c.bands.invariant.0 d ra rb on low long (sym same ∙ w.if-same-row.false)))
+          (added _ _ _ (rects out) (rects ys) [] _ _ _ _ _ _ _ _ k c.bands.invariant.0 d ra rb on low long (sym same ∙ w.if-same_row.false)))
     ] in
-    let kept : length c.if-same-row.out ≡ length words₁ = c.if-same-row.auto.out in
-    (built, kept ∙ (whole ∙ c.bands.invariant.1), built.order, omega (arith, built.within, length-rects c.if-same-row.out))
+    let kept : length c.if-same_row.out ≡ length words₁ = c.if-same_row.auto.out in
+    (built, kept ∙ (whole ∙ c.bands.invariant.1), built.order, omega (arith, built.within, length-rects c.if-same_row.out))

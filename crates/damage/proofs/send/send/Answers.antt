@@ -17,12 +17,12 @@ use Rattle.damage.proofs.Left.{sent-none, sent_by}
 use Rattle.damage.proofs.Gridding.{x-ended, y-ended, lined-low, lined-across, lined-down, lined-sends, sends_none, sends-fit, all-lent}
 use Rattle.damage.proofs.send.send.Goals as goal
 
-pub returns-in-default : goal.returns-in-default
-returns-in-default c =
+pub returns-in_default : goal.returns-in_default
+returns-in_default c =
     record {
       sent = λ bs p step.
           sent_by c.args.at c.args.at [] _ c.args.sent.now c.args.sent.now
-          (sends_none (sizes_of c.args.z) (desk_of c.args.before.now p) (meaning bs c.args.e) (c.in-default.ensures c.args.z bs p step.taken)) (sent-none c.args.at c.args.sent.now);
+          (sends_none (sizes_of c.args.z) (desk_of c.args.before.now p) (meaning bs c.args.e) (c.in_default.ensures c.args.z bs p step.taken)) (sent-none c.args.at c.args.sent.now);
       low = omega arith;
     }
 

@@ -4,11 +4,11 @@ use Rattle.desktop.proofs.Hearing.{found-listens}
 use Rattle.desktop.proofs.Looking.{dot-none, dot-some, left-of, top_of}
 use Rattle.desktop.proofs.look.dot_at.Goals as goal
 
-pub returns-in-default : goal.returns-in-default
-returns-in-default c hi hj =
+pub returns-in_default : goal.returns-in_default
+returns-in_default c hi hj =
     let s = c.args.s.now in
     let p = c.args.pictures.now in
-    let f = simp to_z_pos at c.in-default.ensures in
+    let f = simp to_z_pos at c.in_default.ensures in
     dot-none s p c.args.i c.args.j (found-listens s p (pos c.args.i) (pos c.args.j) None f)
 
 pub returns : goal.returns

@@ -9,15 +9,15 @@ use Rattle.desktop.proofs.Carrying.{refusal}
 use Rattle.desktop.proofs.Painted.{fill-carried}
 use Rattle.desktop.proofs.paint.fill.Goals as goal
 
-pub returns-in-default : goal.returns-in-default
+pub returns-in_default : goal.returns-in_default
 unfolding taken sender
-returns-in-default c z g =
+returns-in_default c z g =
     let p = c.args.pictures.now in
     let d = desk_of c.args.s.now p in
     let e = fill c.args.program c.args.window c.args.x c.args.y c.args.wide c.args.high c.args.colour in
     subst (Carried (sizes_of z) e c.args.s.now p _ _) (sym c.answer.ensures)
     (refusal z e c.args.s.now p c.args.program g
-    (and_left (mine d c.args.program c.args.window) (box_fits (window d c.args.window) c.args.x c.args.y c.args.wide c.args.high) (c.in-default.ensures d p refl)) refl)
+    (and_left (mine d c.args.program c.args.window) (box_fits (window d c.args.window) c.args.x c.args.y c.args.wide c.args.high) (c.in_default.ensures d p refl)) refl)
 
 pub returns-then-not-has-box : goal.returns-then-not-has-box
 unfolding taken sender

@@ -12,15 +12,15 @@ use Rattle.protocol.proofs.Rows.{length-numbers}
 use Rattle.desktop.proofs.Painted.{put-carried}
 use Rattle.desktop.proofs.paint.put.Goals as goal
 
-pub returns-in-default : goal.returns-in-default
+pub returns-in_default : goal.returns-in_default
 unfolding taken sender
-returns-in-default c z g l =
+returns-in_default c z g l =
     let p = c.args.pictures.now in
     let d = desk_of c.args.s.now p in
     let e = put c.args.program c.args.window c.args.x c.args.y (part 4 c.args.call.now c.args.colours) in
     subst (Carried (sizes_of z) e c.args.s.now p _ _) (sym c.answer.ensures)
     (refusal z e c.args.s.now p c.args.program g
-    (and_left (mine d c.args.program c.args.window) (box_fits (window d c.args.window) c.args.x c.args.y (length (part 4 c.args.call.now c.args.colours)) 1) (c.in-default.ensures d p refl)) refl)
+    (and_left (mine d c.args.program c.args.window) (box_fits (window d c.args.window) c.args.x c.args.y (length (part 4 c.args.call.now c.args.colours)) 1) (c.in_default.ensures d p refl)) refl)
 
 pub returns-then-not-has-box : goal.returns-then-not-has-box
 unfolding taken sender

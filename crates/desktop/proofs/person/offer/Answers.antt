@@ -11,12 +11,12 @@ use Rattle.desktop.proofs.Carrying.{refusal}
 use Rattle.desktop.proofs.Hearing.{known-listens, offer-keyless, offer-other, offer-long, offer-taken}
 use Rattle.desktop.proofs.person.offer.Goals as goal
 
-pub returns-in-default : goal.returns-in-default
+pub returns-in_default : goal.returns-in_default
 unfolding taken sender
-returns-in-default c z p g _ =
+returns-in_default c z p g _ =
     let s = c.args.s.now in
     let l = part 1 c.args.call.now c.args.bytes in
-    let k = known-listens s p s.keys None (g.sound p).keys_there c.in-default.ensures in
+    let k = known-listens s p s.keys None (g.sound p).keys_there c.in_default.ensures in
     subst (Carried (sizes_of z) (offer c.args.program (part 1 c.args.call.now c.args.bytes)) s p _ p) (sym c.answer.ensures)
     (refusal z (offer c.args.program (part 1 c.args.call.now c.args.bytes)) s p c.args.program g (offer-keyless (desk_of s p) c.args.program (numbered s.keys) l k) refl)
 
@@ -48,5 +48,5 @@ returns c z p g h =
     subst (Carried (sizes_of z) (offer c.args.program (part 1 c.args.call.now c.args.bytes)) s p _ p) (sym c.answer-2.ensures)
     (offer-taken z s p c.args.program c.in-Some.field-0-0 c.in-Some.w l c.in-Some-offered.clip g k.0 k.1 c.if-w-program.false (omega (arith, n, c.if-bytes-gt4096.false)) o.0 o.1)
 
-pub returns-in-default-offered : goal.returns-in-default-offered
-returns-in-default-offered c z p g h = absurd (c.in-default-offered.ensures h c.if-bytes-gt4096.false)
+pub returns-in_default-offered : goal.returns-in_default-offered
+returns-in_default-offered c z p g h = absurd (c.in_default-offered.ensures h c.if-bytes-gt4096.false)

@@ -3,16 +3,16 @@ use Rattle.stack.specs.View.{numbered}
 use Rattle.desktop.proofs.Hearing.{known-listens, paste-quiet, paste-unowned, paste-told}
 use Rattle.desktop.proofs.person.paste.Goals as goal
 
-pub returns-in-default : goal.returns-in-default
-returns-in-default c z p g =
+pub returns-in_default : goal.returns-in_default
+returns-in_default c z p g =
     let s = c.args.s.now in
-    paste-quiet z s p g (known-listens s p s.keys _ (g.sound p).keys_there c.in-default.ensures)
+    paste-quiet z s p g (known-listens s p s.keys _ (g.sound p).keys_there c.in_default.ensures)
 
-pub returns-in-default-owner : goal.returns-in-default-owner
-returns-in-default-owner c z p g =
+pub returns-in_default-owner : goal.returns-in_default-owner
+returns-in_default-owner c z p g =
     let s = c.args.s.now in
     let l = known-listens s p s.keys _ (g.sound p).keys_there c.in-Some.ensures in
-    paste-unowned z s p g c.in-Some.n l.0 (ap numbered c.in-default-owner.is)
+    paste-unowned z s p g c.in-Some.n l.0 (ap numbered c.in_default-owner.is)
 
 pub returns : goal.returns
 returns c z p g =

@@ -4,9 +4,9 @@ use Rattle.model.specs.Promise.{FitsSizes}
 use Rattle.desktop.proofs.Hearing.{heard-listens, point-quiet, point-told}
 use Rattle.desktop.proofs.person.point.Goals as goal
 
-pub returns-in-default : goal.returns-in-default
+pub returns-in_default : goal.returns-in_default
 unfolding FitsSizes
-returns-in-default c p g =
+returns-in_default c p g =
     let s = c.args.s.now in
     let fx = c.ranges.x in
     let fy = c.ranges.y in
@@ -14,7 +14,7 @@ returns-in-default c p g =
     let py : SFits w16 c.nearest-dot-py.result = search rules in
     simp to_z-of_z
     (point-quiet c.args.z s p g c.args.x c.args.y c.nearest-dot-px.result c.nearest-dot-py.result (simp to_z-of_z at (c.nearest-dot-px.ensures g.sizes.1)) (simp to_z-of_z at (c.nearest-dot-py.ensures g.sizes.3))
-    (heard-listens s p c.nearest-dot-px.result c.nearest-dot-py.result s.held None (g.sound p).held_there (simp to_z-of_z at c.in-default.ensures)))
+    (heard-listens s p c.nearest-dot-px.result c.nearest-dot-py.result s.held None (g.sound p).held_there (simp to_z-of_z at c.in_default.ensures)))
 
 pub returns : goal.returns
 unfolding FitsSizes

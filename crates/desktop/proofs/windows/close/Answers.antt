@@ -9,11 +9,11 @@ use Rattle.desktop.proofs.Carrying.{refusal}
 use Rattle.desktop.proofs.Making.{closed-carried}
 use Rattle.desktop.proofs.windows.close.Goals as goal
 
-pub returns-in-default : goal.returns-in-default
+pub returns-in_default : goal.returns-in_default
 unfolding taken sender
-returns-in-default c z g =
+returns-in_default c z g =
     subst (Carried (sizes_of z) (close c.args.program c.args.window) c.args.s.now c.args.pictures.now _ _) (sym c.answer.ensures)
-    (refusal z (close c.args.program c.args.window) c.args.s.now c.args.pictures.now c.args.program g (c.in-default.ensures (desk_of c.args.s.now c.args.pictures.now) c.args.pictures.now refl) refl)
+    (refusal z (close c.args.program c.args.window) c.args.s.now c.args.pictures.now c.args.program g (c.in_default.ensures (desk_of c.args.s.now c.args.pictures.now) c.args.pictures.now refl) refl)
 
 pub returns : goal.returns
 returns c z g =

@@ -8,11 +8,11 @@ use Rattle.desktop.proofs.Carrying.{refusal}
 use Rattle.desktop.proofs.Arranging.{raised}
 use Rattle.desktop.proofs.windows.raise.Goals as goal
 
-pub returns-in-default : goal.returns-in-default
+pub returns-in_default : goal.returns-in_default
 unfolding taken sender
-returns-in-default c z p g =
+returns-in_default c z p g =
     subst (Carried (sizes_of z) (raise c.args.program c.args.window) c.args.s.now p _ p) (sym c.answer.ensures)
-    (refusal z (raise c.args.program c.args.window) c.args.s.now p c.args.program g (c.in-default.ensures (desk_of c.args.s.now p) p refl) refl)
+    (refusal z (raise c.args.program c.args.window) c.args.s.now p c.args.program g (c.in_default.ensures (desk_of c.args.s.now p) p refl) refl)
 
 pub returns : goal.returns
 returns c z p g =

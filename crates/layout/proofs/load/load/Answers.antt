@@ -6,20 +6,20 @@ use Rattle.layout.specs.Loads.{Hands}
 use Rattle.layout.proofs.Holds.{no_room, no_stack, no-clip, no-hands, loaded}
 use Rattle.layout.proofs.load.load.Goals as goal
 
-pub returns-in-default : goal.returns-in-default
-returns-in-default c = no_room c.args.work.now c.args.pictures c.in-default.ensures
+pub returns-in_default : goal.returns-in_default
+returns-in_default c = no_room c.args.work.now c.args.pictures c.in_default.ensures
 
-pub returns-in-default-load-stack : goal.returns-in-default-load-stack
-returns-in-default-load-stack c = no_stack c.args.work.now c.args.pictures c.in-default-load-stack.ensures
+pub returns-in_default-load-stack : goal.returns-in_default-load-stack
+returns-in_default-load-stack c = no_stack c.args.work.now c.args.pictures c.in_default-load-stack.ensures
 
-pub returns-in-default-load-clip : goal.returns-in-default-load-clip
-returns-in-default-load-clip c = no-clip c.args.work.now c.args.pictures c.in-default-load-clip.ensures
+pub returns-in_default-load-clip : goal.returns-in_default-load-clip
+returns-in_default-load-clip c = no-clip c.args.work.now c.args.pictures c.in_default-load-clip.ensures
 
-pub returns-in-default-load-hands : goal.returns-in-default-load-hands
-returns-in-default-load-hands c =
+pub returns-in_default-load-hands : goal.returns-in_default-load-hands
+returns-in_default-load-hands c =
     let work = c.args.work.now in
     no-hands work c.args.pictures
-    (sym (ap (λ (os : List (Option Window)). handed os (low (word work 7)) && handed os (high (word work 7))) c.in-Some-load-stack.ensures.slots) ∙ c.in-default-load-hands.ensures)
+    (sym (ap (λ (os : List (Option Window)). handed os (low (word work 7)) && handed os (high (word work 7))) c.in-Some-load-stack.ensures.slots) ∙ c.in_default-load-hands.ensures)
 
 pub returns : goal.returns
 returns c =

@@ -6,8 +6,8 @@ use Rattle.layout.specs.Head.{sizes_in}
 use Rattle.layout.proofs.Checked.{too_short, room-not, starts}
 use Rattle.layout.proofs.load.load_sizes.Goals as goal
 
-pub returns-in-default : goal.returns-in-default
-returns-in-default c = too_short c.args.work.now c.args.pictures c.in-default.ensures
+pub returns-in_default : goal.returns-in_default
+returns-in_default c = too_short c.args.work.now c.args.pictures c.in_default.ensures
 
 pub returns-in-None : goal.returns-in-None
 unfolding sizes_in FitsSizes

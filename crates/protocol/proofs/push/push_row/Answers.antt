@@ -13,7 +13,7 @@ returns c =
     let xs = drop from src in
     record {
       added = λ w e.
-          let b : Bytes src = λ i. omega (arith, c.ok.source i) in
+          let b : Bytes src = λ i. omega (arith, c.type_inv.source i) in
           let l : w * n ≤ length xs = simp length-drop (omega arith) in
           let d : take c.args.size xs ≡ all_digits w (numbers w n xs) =
           ap (λ m. take m xs) e ∙ sym (all-digits-numbers w n xs l (bytes_drop from src b)) in

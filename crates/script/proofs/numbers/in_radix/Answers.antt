@@ -20,16 +20,16 @@ returns-in-Ok c =
     let val = subst (λ l. c.in-Ok.n ≡ digits_value c.args.radix l) e got.1 in
     record { value = in_base-ok _ _ _ _ num val (omega arith); bound = omega arith }
 
-pub returns-in-default : goal.returns-in-default
-returns-in-default c =
+pub returns-in_default : goal.returns-in_default
+returns-in_default c =
     let d = starts_char 43 c.args.digits.now c.starts-with.result c.starts-with.ensures.cases (lit< tt) (lit< tt) in
     let e = without_leading_plus_none c.args.digits.now (λ h. both_ways _ c.if-starts-with.false (d.1 h)) in
     let val = subst (λ l. c.in-Ok.n ≡ digits_value c.args.radix l) e c.in-Ok.ensures.value.1 in
     record { value = in_base-high _ _ _ _ val (omega arith); bound = tt }
 
-pub returns-in-default·2 : goal.returns-in-default·2
-returns-in-default·2 c =
+pub returns-in_default·2 : goal.returns-in_default·2
+returns-in_default·2 c =
     let d = starts_char 43 c.args.digits.now c.starts-with.result c.starts-with.ensures.cases (lit< tt) (lit< tt) in
     let e = without_leading_plus_none c.args.digits.now (λ h. both_ways _ c.if-starts-with.false (d.1 h)) in
-    let none = subst (λ l. IsNumeral c.args.radix l × (digits_value c.args.radix l < 2 ^ 32) → ⊥) e c.in-default.ensures.value in
+    let none = subst (λ l. IsNumeral c.args.radix l × (digits_value c.args.radix l < 2 ^ 32) → ⊥) e c.in_default.ensures.value in
     record { value = in_base-none _ _ _ (omega arith) none; bound = tt }

@@ -2,8 +2,8 @@ use Rattle.std.proofs.Common.{◌≡◌, sym}
 use Rattle.server.proofs.Opening.{not-sized, called}
 use Rattle.server.proofs.call.event.Goals as goal
 
-pub returns-in-default-budget : goal.returns-in-default-budget
-returns-in-default-budget c = absurd (not-sized _ _ c.in-Some.ensures.good.sizes c.in-default-budget.ensures)
+pub returns-in_default-budget : goal.returns-in_default-budget
+returns-in_default-budget c = absurd (not-sized _ _ c.in-Some.ensures.good.sizes c.in_default-budget.ensures)
 
 pub returns : goal.returns
 returns c =

@@ -22,7 +22,7 @@ returns-in-Some c =
 pub step-out-requires : goal.step-out-requires
 step-out-requires c =
     let i = c.events.invariant in
-    let g = goes_on (sizes_of c.args.z) c.args.lent c.events.used (sym c.in-default.ensures) in
+    let g = goes_on (sizes_of c.args.z) c.args.lent c.events.used (sym c.in_default.ensures) in
     record {
       good = i.1;
       had = c.in-Ok.ensures.had;
@@ -33,7 +33,7 @@ step-out-requires c =
 pub events-preserved : goal.events-preserved
 events-preserved c =
     let i = c.events.invariant in
-    let b = sym c.in-default.ensures in
+    let b = sym c.in_default.ensures in
     let g = goes_on (sizes_of c.args.z) c.args.lent c.events.used b in
     let r = c.in-Ok.ensures in
     let s = c.step-out.ensures in
@@ -58,7 +58,7 @@ returns-in-Err c =
     let r = c.in-Err.ensures in
     record {
       good = i.1;
-      ran = going-fault _ _ _ _ _ _ _ _ _ _ _ _ _ _ i.0 _ _ (omega arith) (sym c.in-default.ensures)
+      ran = going-fault _ _ _ _ _ _ _ _ _ _ _ _ _ _ i.0 _ _ (omega arith) (sym c.in_default.ensures)
           (r.value ∙ ap (λ f. read_event f c.args.z.programs c.args.call.now c.events.at) c.all-kinds-kinds.ensures) refl refl refl refl refl;
     }
 

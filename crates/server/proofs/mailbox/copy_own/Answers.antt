@@ -29,5 +29,5 @@ copy-preserved c =
 pub returns-after-copy : goal.returns-after-copy
 returns-after-copy c = copied-end _ _ _ _ _ _ c.copy.invariant (omega arith)
 
-pub returns-in-default : goal.returns-in-default
-returns-in-default c = absurd (copied-no-fault _ _ _ _ _ _ _ _ c.copy.invariant c.requires.size (omega arith) (sym c.in-default.ensures.value))
+pub returns-in_default : goal.returns-in_default
+returns-in_default c = absurd (copied-no-fault _ _ _ _ _ _ _ _ c.copy.invariant c.requires.size (omega arith) (sym c.in_default.ensures.value))

@@ -3,9 +3,9 @@ use Rattle.std.proofs.lemmas.Bool.{both_ways}
 use Rattle.server.proofs.Telling.{told_none, told-some, told-fits}
 use Rattle.server.proofs.step.tell.Goals as goal
 
-pub returns-in-default : goal.returns-in-default
-returns-in-default c =
-    record { added = told_none c.args.at c.args.source.now c.args.told c.args.words.now c.in-default.is; bytes = λ i. omega (arith, c.type-inv.source i) }
+pub returns-in_default : goal.returns-in_default
+returns-in_default c =
+    record { added = told_none c.args.at c.args.source.now c.args.told c.args.words.now c.in_default.is; bytes = λ i. omega (arith, c.type-inv.source i) }
 
 pub returns-in-Some-write-word : goal.returns-in-Some-write-word
 returns-in-Some-write-word c =

@@ -45,19 +45,19 @@ pub returns-in-paste : goal.returns-in-paste
 returns-in-paste c = named-is Paste _ c.in-paste.is
 
 not_named : (c : goal.In-default) (k : Kind) → c.args.word.now ≡ name_of k → ⊥
-not_named c Make = c.in-default.not-make
-not_named c Close = c.in-default.not-close
-not_named c Move = c.in-default.not-Move
-not_named c Raise = c.in-default.not-raise
-not_named c Show = c.in-default.not-show
-not_named c Fill = c.in-default.not-fill
-not_named c Put = c.in-default.not-put
-not_named c Copy = c.in-default.not-copy
-not_named c Offer = c.in-default.not-offer
-not_named c Point = c.in-default.not-point
-not_named c Press = c.in-default.not-press
-not_named c Key = c.in-default.not_key
-not_named c Paste = c.in-default.not-paste
+not_named c Make = c.in_default.not-make
+not_named c Close = c.in_default.not-close
+not_named c Move = c.in_default.not-Move
+not_named c Raise = c.in_default.not-raise
+not_named c Show = c.in_default.not-show
+not_named c Fill = c.in_default.not-fill
+not_named c Put = c.in_default.not-put
+not_named c Copy = c.in_default.not-copy
+not_named c Offer = c.in_default.not-offer
+not_named c Point = c.in_default.not-point
+not_named c Press = c.in_default.not-press
+not_named c Key = c.in_default.not_key
+not_named c Paste = c.in_default.not-paste
 
-pub returns-in-default : goal.returns-in-default
-returns-in-default c = named_none _ (not_named c)
+pub returns-in_default : goal.returns-in_default
+returns-in_default c = named_none _ (not_named c)

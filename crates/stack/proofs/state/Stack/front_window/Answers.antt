@@ -10,7 +10,7 @@ unfolding in_window
 loop-i-preserved-in_default c d p h =
     let fx = c.ranges.x in
     let fy = c.ranges.y in
-    let s = front-step d c.args.self.now.order c.loop-i.i c.args.x c.args.y nothing false (search rules) (search rules) (c.in-default.ensures.value d p h) refl in
+    let s = front-step d c.args.self.now.order c.loop-i.i c.args.x c.args.y nothing false (search rules) (search rules) (c.in_default.ensures.value d p h) refl in
     let v = simp to_z-of_z at (c.loop-i.invariant d p h) in
     simp to_z-of_z (sym s ∙ v)
 

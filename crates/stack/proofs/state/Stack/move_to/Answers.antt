@@ -6,7 +6,7 @@ use Rattle.stack.proofs.state.Stack.move_to.Goals as goal
 
 pub returns-in_default : goal.returns-in_default
 returns-in_default c =
-    let e = c.in-default.ensures in
+    let e = c.in_default.ensures in
     record { answer = λ d p h. sym (e d p h); windows = λ d p h. unchanged d _ _ _ _ (e d p h) h; slots = refl; order = refl; limit = refl }
 
 pub returns : goal.returns

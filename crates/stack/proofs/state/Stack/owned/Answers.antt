@@ -4,7 +4,7 @@ use Rattle.stack.proofs.Slots.{mine-by, slot-low}
 use Rattle.stack.proofs.state.Stack.owned.Goals as goal
 
 pub returns-in_default : goal.returns-in_default
-returns-in_default c d p h = mine-by d _ _ _ (c.in-default.ensures.value d p h)
+returns-in_default c d p h = mine-by d _ _ _ (c.in_default.ensures.value d p h)
 
 pub returns-then-w-c : goal.returns-then-w-c
 returns-then-w-c c =
