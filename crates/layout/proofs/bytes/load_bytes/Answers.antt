@@ -8,8 +8,8 @@ pub loop-i-preserved : goal.loop-i-preserved
 loop-i-preserved c =
     let xs = c.loop-i.out in
     let i = c.loop-i.i in
-    let r = c.byte-at.result in
-    below_more _ i (λ k h. get_or-set_other xs i k r 0 (λ e. omega arith) ∙ c.loop-i.invariant k h) (get_or-set_same xs i r 0 (omega arith) ∙ c.byte-at.ensures)
+    let r = c.byte_at.result in
+    below_more _ i (λ k h. get_or-set_other xs i k r 0 (λ e. omega arith) ∙ c.loop-i.invariant k h) (get_or-set_same xs i r 0 (omega arith) ∙ c.byte_at.ensures)
 
 pub returns : goal.returns
 returns c =

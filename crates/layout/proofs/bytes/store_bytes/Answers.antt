@@ -10,14 +10,14 @@ loop-n-preserved c =
     let at = c.args.at in
     let bytes = c.args.bytes.now in
     let count = c.args.count in
-    let v = c.word-of.result in
-    let e = c.word-of.ensures in (
+    let v = c.word_of.result in
+    let e = c.word_of.ensures in (
       word_more c.loop-n.work bytes at n v count (omega arith) c.loop-n.invariant.0
           (four (λ j. 4 * n + j < count → byte_of v j ≡ get_or bytes (4 * n + j) 0)
-          (λ h. rw add-zero (e.first ∙ c.byte-or-zero-a.ensures.value (omega arith)))
-          (λ h. e.second ∙ c.byte-or-zero-b.ensures.value h)
-          (λ h. e.third ∙ c.byte-or-zero-c.ensures.value h)
-          (λ h. e.fourth ∙ c.byte-or-zero-d.ensures.value h)),
+          (λ h. rw add-zero (e.first ∙ c.byte_or_zero-a.ensures.value (omega arith)))
+          (λ h. e.second ∙ c.byte_or_zero-b.ensures.value h)
+          (λ h. e.third ∙ c.byte_or_zero-c.ensures.value h)
+          (λ h. e.fourth ∙ c.byte_or_zero-d.ensures.value h)),
       λ k o. get_or-set_other c.loop-n.work (at + n) k v 0 (λ q. elim o [ inl h ↦ omega arith | inr h ↦ omega arith ]) ∙ c.loop-n.invariant.1 k o,
     )
 

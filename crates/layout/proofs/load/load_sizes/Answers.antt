@@ -17,5 +17,5 @@ returns-in-None c =
     let s = starts (sizes_in c.args.work.now) c.args.pictures (length c.args.work.now) e in
     record { sizes = h.1; room = e; long = h.0; few = subst (λ z. z.windows ≤ 255) (sym h.1) s.fits.4 }
 
-pub returns-in-Some-start-refusal : goal.returns-in-Some-start-refusal
-returns-in-Some-start-refusal c = let h = c.in-Some.ensures in room-not c.args.work.now c.args.pictures _ (ap (λ z. start_refusal z c.args.pictures (length c.args.work.now)) (sym h.1) ∙ sym c.in-Some-start-refusal.ensures)
+pub returns-in-Some-start_refusal : goal.returns-in-Some-start_refusal
+returns-in-Some-start_refusal c = let h = c.in-Some.ensures in room-not c.args.work.now c.args.pictures _ (ap (λ z. start_refusal z c.args.pictures (length c.args.work.now)) (sym h.1) ∙ sym c.in-Some-start_refusal.ensures)

@@ -9,6 +9,6 @@ returns-else-k-eq0 c =
     let os = slots_of c.args.s.now in
     let k = c.args.k in
     record {
-      value = hand-is os k c.slot.result c.is-some.result (λ e. omega arith) c.slot.ensures c.is-some.ensures;
-      small = hand-small os k c.slot.result c.is-some.result (λ e. omega arith) c.slot.ensures c.is-some.ensures (omega (arith, length-slots c.args.s.now, c.args.s.now.low));
+      value = hand-is os k c.slot.result c.is_some.result (λ e. omega arith) c.slot.ensures c.is_some.ensures;
+      small = hand-small os k c.slot.result c.is_some.result (λ e. omega arith) c.slot.ensures c.is_some.ensures (omega (arith, length-slots c.args.s.now, c.args.s.now.low));
     }

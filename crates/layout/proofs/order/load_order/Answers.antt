@@ -10,7 +10,7 @@ pub loop-i-preserved : goal.loop-i-preserved
 loop-i-preserved c =
     let v = c.loop-i.invariant in
     let e = c.append.ensures in (
-      order-more (byte_in c.args.work.now c.args.at) c.loop-i.i c.byte-at-n.result _ _ c.append.result v.0 (omega arith) e.answer c.byte-at-n.ensures e.order,
+      order-more (byte_in c.args.work.now c.args.at) c.loop-i.i c.byte_at-n.result _ _ c.append.result v.0 (omega arith) e.answer c.byte_at-n.ensures e.order,
       e.slots ∙ v.1,
       e.limit ∙ v.2,
     )

@@ -7,7 +7,7 @@ use Rattle.layout.proofs.order.order_good.Goals as goal
 pub returns-in-Some : goal.returns-in-Some
 returns-in-Some c =
     let s = c.args.s.now in
-    c.seen-once.ensures ∙ orderly-by (slots_of s) (order_of s) c.in-Some.seen s.limit c.in-Some.ensures (length-slots s)
+    c.seen_once.ensures ∙ orderly-by (slots_of s) (order_of s) c.in-Some.seen s.limit c.in-Some.ensures (length-slots s)
 
 pub returns-in-None : goal.returns-in-None
 returns-in-None c =

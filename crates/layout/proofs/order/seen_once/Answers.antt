@@ -8,11 +8,11 @@ use Rattle.layout.proofs.order.seen_once.Goals as goal
 pub loop-n-preserved : goal.loop-n-preserved
 loop-n-preserved c =
     below_more _ c.loop-n.n c.loop-n.invariant
-    (eq-eqb _ _ (c.if-seen-n.false ∙ c.times-wanted.ensures ∙ ap (λ o. bit (is_some o)) c.slot.ensures))
+    (eq-eqb _ _ (c.if-seen-n.false ∙ c.times_wanted.ensures ∙ ap (λ o. bit (is_some o)) c.slot.ensures))
 
 pub returns-then-seen-n : goal.returns-then-seen-n
 returns-then-seen-n c =
-    let e : c.times-wanted.result ≡ bit (is_some (get_or (slots_of c.args.s.now) c.loop-n.n None)) = c.times-wanted.ensures ∙ ap (λ o. bit (is_some o)) c.slot.ensures in
+    let e : c.times_wanted.result ≡ bit (is_some (get_or (slots_of c.args.s.now) c.loop-n.n None)) = c.times_wanted.ensures ∙ ap (λ o. bit (is_some o)) c.slot.ensures in
     sym (each-false (λ n. eqb (get_or c.args.seen.now n 0) (bit (is_some (get_or (slots_of c.args.s.now) n None)))) c.args.s.now.limit c.loop-n.n (omega arith)
     (ne_eqb _ _ (λ q. c.if-seen-n.true (q ∙ sym e))))
 

@@ -19,8 +19,8 @@ loop-i-preserved c =
     tally-more s.limit i (get_or s.order i 0) (order_of s) c.loop-i.seen c.loop-i.invariant
     (omega (arith, length-take-le s.count s.order (omega (arith, s.few)))) (slot-in s.count i s.order 0 (omega arith)) c.if-n-s.false s.low
 
-pub overflow-add-seen : goal.overflow-add-seen
-overflow-add-seen c =
+pub overflow_add-seen : goal.overflow_add-seen
+overflow_add-seen c =
     let s = c.args.s.now in
     let i = c.loop-i.i in
     let n = get_or s.order i 0 in

@@ -10,6 +10,6 @@ returns c =
     let w = c.args.work.now in
     let post = post_of 0 (length f - 0) w in
     record {
-      here = λ k h. ap (λ us. get_or (us ++ post) k 0) c.copy-from-slice.ensures.after ∙ get_or_append_left f post 0 k h;
-      rest = λ k h. ap (λ us. get_or (us ++ post) k 0) c.copy-from-slice.ensures.after ∙ behind-front f w k h c.requires;
+      here = λ k h. ap (λ us. get_or (us ++ post) k 0) c.copy_from_slice.ensures.after ∙ get_or_append_left f post 0 k h;
+      rest = λ k h. ap (λ us. get_or (us ++ post) k 0) c.copy_from_slice.ensures.after ∙ behind-front f w k h c.requires;
     }

@@ -9,8 +9,8 @@ use Rattle.layout.proofs.table.load_table.Goals as goal
 pub loop-n-preserved : goal.loop-n-preserved
 loop-n-preserved c =
     let i = c.loop-n.invariant in
-    let e = c.set-window.ensures in (
-      slots-more (entry_at c.args.work.now c.args.at) c.loop-n.n (slots_of c.loop-n.s) _ _ e.slots c.load-entry.ensures (omega (arith, length-slots c.loop-n.s, i.2)) i.0,
+    let e = c.set_window.ensures in (
+      slots-more (entry_at c.args.work.now c.args.at) c.loop-n.n (slots_of c.loop-n.s) _ _ e.slots c.load_entry.ensures (omega (arith, length-slots c.loop-n.s, i.2)) i.0,
       e.order ∙ i.1,
       e.limit ∙ i.2,
     )

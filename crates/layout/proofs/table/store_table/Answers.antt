@@ -8,10 +8,10 @@ pub loop-n-preserved : goal.loop-n-preserved
 loop-n-preserved c =
     let i = c.loop-n.invariant in
     let n = c.loop-n.n in
-    let e = c.store-entry.ensures in
+    let e = c.store_entry.ensures in
     let at = c.args.at in (
       below_more _ n
-          (λ k h. entry-same c.store-entry.new.work c.loop-n.work at k (e.rest (at + 3 * k) (inl (omega arith))) (e.rest (at + 3 * k + 1) (inl (omega arith))) (e.rest (at + 3 * k + 2) (inl (omega arith))) ∙ i.0 k h)
+          (λ k h. entry-same c.store_entry.new.work c.loop-n.work at k (e.rest (at + 3 * k) (inl (omega arith))) (e.rest (at + 3 * k + 1) (inl (omega arith))) (e.rest (at + 3 * k + 2) (inl (omega arith))) ∙ i.0 k h)
           (e.window ∙ ap bare c.slot.ensures),
       below_more _ n (λ k h. ap flagged (e.rest (at + 3 * k) (inl (omega arith))) ∙ i.1 k h) e.flags,
       λ k o. e.rest k (elim o [ inl h ↦ inl (omega arith) | inr h ↦ inr (omega arith) ]) ∙ i.2 k o,

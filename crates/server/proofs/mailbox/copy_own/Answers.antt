@@ -9,7 +9,7 @@ copy-init c = copied-start c.args.program c.args.words.now c.args.row.now
 
 pub copy-part-used-requires : goal.copy-part-used-requires
 copy-part-used-requires c =
-    let b : Bytes c.args.words.now = λ i. omega (arith, c.type-inv.words i) in
+    let b : Bytes c.args.words.now = λ i. omega (arith, c.type_inv.words i) in
     let e = c.in-Ok.ensures in
     let q = eq-eqb c.in-Ok.to c.args.program (omega arith) in
     let room = copied-room _ _ _ _ _ _ _ _ _ c.copy.invariant c.requires.size b (omega arith) (sym e.value) q in
@@ -17,13 +17,13 @@ copy-part-used-requires c =
 
 pub copy-preserved-then-to-program : goal.copy-preserved-then-to-program
 copy-preserved-then-to-program c =
-    let b : Bytes c.args.words.now = λ i. omega (arith, c.type-inv.words i) in
+    let b : Bytes c.args.words.now = λ i. omega (arith, c.type_inv.words i) in
     let q = eq-eqb c.in-Ok.to c.args.program (omega arith) in
     copied-mine _ _ _ _ _ _ _ _ _ _ c.copy.invariant b (omega arith) (sym c.in-Ok.ensures.value) q c.copy-part-used.ensures
 
 pub copy-preserved : goal.copy-preserved
 copy-preserved c =
-    let b : Bytes c.args.words.now = λ i. omega (arith, c.type-inv.words i) in
+    let b : Bytes c.args.words.now = λ i. omega (arith, c.type_inv.words i) in
     copied-other _ _ _ _ _ _ _ _ c.copy.invariant b (omega arith) (sym c.in-Ok.ensures.value) (ne_eqb c.in-Ok.to c.args.program (omega arith))
 
 pub returns-after-copy : goal.returns-after-copy

@@ -9,12 +9,12 @@ measure-init c = counted_start c.args.program c.args.words.now
 
 pub measure-preserved-then-told-program : goal.measure-preserved-then-told-program
 measure-preserved-then-told-program c =
-    let b : Bytes c.args.words.now = λ i. omega (arith, c.type-inv.words i) in
+    let b : Bytes c.args.words.now = λ i. omega (arith, c.type_inv.words i) in
     counted-mine _ _ _ _ _ _ c.measure.invariant b (omega arith) (sym c.in-Ok.ensures.value) (eq-eqb c.in-Ok.told c.args.program (omega arith))
 
 pub measure-preserved : goal.measure-preserved
 measure-preserved c =
-    let b : Bytes c.args.words.now = λ i. omega (arith, c.type-inv.words i) in
+    let b : Bytes c.args.words.now = λ i. omega (arith, c.type_inv.words i) in
     counted-other _ _ _ _ _ _ c.measure.invariant b (omega arith) (sym c.in-Ok.ensures.value) (ne_eqb c.in-Ok.told c.args.program (omega arith))
 
 pub returns-in-Err : goal.returns-in-Err

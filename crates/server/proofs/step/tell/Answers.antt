@@ -5,13 +5,13 @@ use Rattle.server.proofs.step.tell.Goals as goal
 
 pub returns-in_default : goal.returns-in_default
 returns-in_default c =
-    record { added = told_none c.args.at c.args.source.now c.args.told c.args.words.now c.in_default.is; bytes = λ i. omega (arith, c.type-inv.source i) }
+    record { added = told_none c.args.at c.args.source.now c.args.told c.args.words.now c.in_default.is; bytes = λ i. omega (arith, c.type_inv.source i) }
 
 pub returns-in-Some-write-word : goal.returns-in-Some-write-word
 returns-in-Some-write-word c =
     record {
       added = told-some c.args.at _ c.args.source.now c.args.told c.in-Some.t c.args.words.now _ c.in-Some.is c.in-Some-write-word.ensures.2;
-      bytes = λ i. omega (arith, c.type-inv.source i);
+      bytes = λ i. omega (arith, c.type_inv.source i);
     }
 
 pub returns-in-None : goal.returns-in-None

@@ -10,5 +10,5 @@ pub returns-in-Ok : goal.returns-in-Ok
 returns-in-Ok c =
     firsts _ _ _ _ _ _ c.first-in-Ok-2.ensures
     (firsts _ _ _ _ _ _ c.first.ensures c.short.ensures c.short-in-Ok.ensures refl)
-    (firsts _ _ _ _ _ _ c.first-in-Ok.ensures c.short-by.ensures c.short-by-in-Ok.ensures refl)
+    (firsts _ _ _ _ _ _ c.first-in-Ok.ensures c.short_by.ensures c.short_by-in-Ok.ensures refl)
     (event-by (sizes_of c.args.self.now) c.in-Ok.budget c.args.lent c.args.used c.in-Ok.ensures)
