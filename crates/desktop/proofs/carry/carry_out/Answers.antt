@@ -6,7 +6,7 @@ pub returns-in-Move : goal.returns-in-Move
 returns-in-Move c g h =
     let fx : SFits w16 c.in-Move.x = search rules in
     let fy : SFits w16 c.in-Move.y = search rules in
-    rw c.in-Move.is (simp to_z-of_z at (c.move-to.ensures c.args.z c.args.pictures.now g))
+    rw c.in-Move.is (simp to_z-of_z at (c.move_to.ensures c.args.z c.args.pictures.now g))
 
 pub returns-in-Raise : goal.returns-in-Raise
 returns-in-Raise c g h = rw c.in-Raise.is (c.raise.ensures c.args.z c.args.pictures.now g)

@@ -7,4 +7,4 @@ pub returns-in-None : goal.returns-in-None
 returns-in-None c =
     let fx = c.ranges.x in
     let fy = c.ranges.y in
-    subst (λ k. HeardBy c.args.s.now k c.args.x c.args.y c.front-window.result) (sym c.in-None.is) (simp to_z-of_z at c.front-window.ensures)
+    subst (λ k. HeardBy c.args.s.now k c.args.x c.args.y c.front_window.result) (sym c.in-None.is) (simp to_z-of_z at c.front_window.ensures)

@@ -19,11 +19,11 @@ pub returns : goal.returns
 returns c z g =
     let p = c.args.pictures.now in
     let o = c.in-Some.ensures in
-    let a = c.set-window.ensures in
+    let a = c.set_window.ensures in
     let b = c.pack.ensures in
     let d = c.remove.ensures in
     subst (Carried (sizes_of z) (close c.args.program c.args.window) c.args.s.now p _ _) (sym c.answer-2.ensures)
-    (closed-carried z c.args.s.now c.remove.new.self p c.close-gap.new.pictures c.args.program c.args.window c.area-used-used.result c.dots.result c.in-Some.w c.let-go-s.result c.let-go-s-2.result g
-    o.slot (o.mine (desk_of c.args.s.now p) p refl) (c.area-used-used.ensures.value p)
-    (d.slots ∙ b.slots ∙ ap (packed 0) a.slots) (d.limit ∙ b.limit ∙ a.limit) (d.order ∙ ap (without c.args.window) (b.order ∙ a.order)) c.let-go-s.ensures c.let-go-s-2.ensures
-    c.dots.ensures.value c.close-gap.ensures)
+    (closed-carried z c.args.s.now c.remove.new.self p c.close_gap.new.pictures c.args.program c.args.window c.area_used-used.result c.dots.result c.in-Some.w c.let_go-s.result c.let_go-s-2.result g
+    o.slot (o.mine (desk_of c.args.s.now p) p refl) (c.area_used-used.ensures.value p)
+    (d.slots ∙ b.slots ∙ ap (packed 0) a.slots) (d.limit ∙ b.limit ∙ a.limit) (d.order ∙ ap (without c.args.window) (b.order ∙ a.order)) c.let_go-s.ensures c.let_go-s-2.ensures
+    c.dots.ensures.value c.close_gap.ensures)

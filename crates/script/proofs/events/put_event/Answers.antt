@@ -10,14 +10,14 @@ use Rattle.script.proofs.events.put_event.Goals as goal
 pub returns-then-words-count : goal.returns-then-words-count
 returns-then-words-count c = event-said _ _ ∙ event-few _ c.args.words.now (rw (← c.fields-fields.ensures) c.if-words-count.true)
 
-pub returns-in-err-put-fields : goal.returns-in-err-put-fields
-returns-in-err-put-fields c =
+pub returns-in_err-put_fields : goal.returns-in_err-put_fields
+returns-in_err-put_fields c =
     let old = vec_items c.args.out.now in
     let k = c.args.kind in
-    let p = err_from_is_err_and c.from-residual-in-err-put-fields.result c.from-residual-in-err-put-fields.ensures.1 in
-    let added : vec_items c.add.new.out ≡ old ++ (number_of k ∷ []) = c.in-ok-add.ensures ∙ ap (λ n. old ++ (n ∷ [])) c.number.ensures in
+    let p = err_from_is_err_and c.from_residual-in_err-put_fields.result c.from_residual-in_err-put_fields.ensures.1 in
+    let added : vec_items c.add.new.out ≡ old ++ (number_of k ∷ []) = c.in_ok-add.ensures ∙ ap (λ n. old ++ (n ∷ [])) c.number.ensures in
     let parts = event-said k (texts c.args.words.now) ∙ event-parts k c.fields-fields.result.now c.args.words.now c.fields-fields.ensures c.if-words-count.false in
-    rw (p.1, p.2) (going-stop _ _ _ (going_more (number_of k ∷ []) (vec_items c.add.new.out) _ (going-by parts (going_start _ old)) added) c.in-err-put-fields.ensures)
+    rw (p.1, p.2) (going-stop _ _ _ (going_more (number_of k ∷ []) (vec_items c.add.new.out) _ (going-by parts (going_start _ old)) added) c.in_err-put_fields.ensures)
 
 pub returns : goal.returns
 returns c =
@@ -26,8 +26,8 @@ returns c =
     let fs = c.fields-fields.result.now in
     let ws = c.args.words.now in
     let rest = rest_bytes (row_of k) (texts (take (length ws - length fs) (drop (length fs) ws))) in
-    let added : vec_items c.add.new.out ≡ old ++ (number_of k ∷ []) = c.in-ok-add.ensures ∙ ap (λ n. old ++ (n ∷ [])) c.number.ensures in
+    let added : vec_items c.add.new.out ≡ old ++ (number_of k ∷ []) = c.in_ok-add.ensures ∙ ap (λ n. old ++ (n ∷ [])) c.number.ensures in
     let parts = event-said k (texts c.args.words.now) ∙ event-parts k fs ws c.fields-fields.ensures c.if-words-count.false in
     let one = going_more (number_of k ∷ []) (vec_items c.add.new.out) _ (going-by parts (going_start _ old)) added in
-    let two = going-put (each_bytes fs (texts (take (length fs - 0) ws))) (vec_items c.put-fields.new.out) rest tt one c.in-ok-put-fields.ensures in
-    going-last {old = old} rest (vec_items c.put-rest.new.out) c.put-rest.result two c.put-rest.ensures
+    let two = going-put (each_bytes fs (texts (take (length fs - 0) ws))) (vec_items c.put_fields.new.out) rest tt one c.in_ok-put_fields.ensures in
+    going-last {old = old} rest (vec_items c.put_rest.new.out) c.put_rest.result two c.put_rest.ensures

@@ -4,13 +4,13 @@ use Rattle.std.proofs.lemmas.Bool.Decides.{nat_tests}
 use Rattle.script.proofs.Left.{rest-empty, rest-words}
 use Rattle.script.proofs.events.put_rest.Goals as goal
 
-pub returns-then-is-empty : goal.returns-then-is-empty
-returns-then-is-empty c =
-    let z : length c.args.words.now ≡ 0 = eqb-true _ _ (sym c.if-is-empty.ensures) in
+pub returns-then-is_empty : goal.returns-then-is_empty
+returns-then-is_empty c =
+    let z : length c.args.words.now ≡ 0 = eqb-true _ _ (sym c.if-is_empty.ensures) in
     ([], rest-empty _ c.args.words.now c.in-None.ensures z, sym (append-nil _))
 
-pub returns-else-is-empty : goal.returns-else-is-empty
-returns-else-is-empty c =
-    let e = c.if-is-empty.ensures in
+pub returns-else-is_empty : goal.returns-else-is_empty
+returns-else-is_empty c =
+    let e = c.if-is_empty.ensures in
     let z : 0 < length c.args.words.now = grind (arith, nat_tests) in
     rest-words _ c.args.words.now c.in-None.ensures z

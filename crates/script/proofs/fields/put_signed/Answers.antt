@@ -11,8 +11,8 @@ unfolding near_bytes
 returns-in-Some c =
     let f : SFits w16 c.in-Some.n = search rules in
     let b : c.bits.result ≡ unsigned 32768 c.in-Some.n = simp to_z-of_z at c.bits.ensures in
-    let e : c.to-le-bytes.result ≡ digits 2 c.bits.result = c.to-le-bytes.ensures ∙ two_digits c.bits.result in
-    puts-from-add _ _ _ c.to-le-bytes.result c.add.result
+    let e : c.to_le_bytes.result ≡ digits 2 c.bits.result = c.to_le_bytes.ensures ∙ two_digits c.bits.result in
+    puts-from-add _ _ _ c.to_le_bytes.result c.add.result
     (sym (ap (option_map (λ z. digits 2 (unsigned 32768 z))) c.in-Some.ensures) ∙ ap (λ l. Some l) (sym (e ∙ ap (digits 2) b))) c.add.ensures
 
 pub returns-in-None : goal.returns-in-None

@@ -7,13 +7,13 @@ use Rattle.script.proofs.rows.put_fields.Goals as goal
 pub loop-i-init : goal.loop-i-init
 loop-i-init c = going_start _ _
 
-pub returns-in-err-put : goal.returns-in-err-put
-returns-in-err-put c =
-    let p = err_from_is_err_and c.from-residual.result c.from-residual.ensures.1 in
-    rw (p.1, p.2) (going-stop _ _ _ (going-by (each_more c.args.fields.now c.args.words.now c.loop-i.i _ _ (omega arith) (omega arith)) c.loop-i.invariant) c.in-err-put.ensures)
+pub returns-in_err-put : goal.returns-in_err-put
+returns-in_err-put c =
+    let p = err_from_is_err_and c.from_residual.result c.from_residual.ensures.1 in
+    rw (p.1, p.2) (going-stop _ _ _ (going-by (each_more c.args.fields.now c.args.words.now c.loop-i.i _ _ (omega arith) (omega arith)) c.loop-i.invariant) c.in_err-put.ensures)
 
 pub loop-i-preserved : goal.loop-i-preserved
-loop-i-preserved c = going-put _ _ _ tt (going-by (each_more c.args.fields.now c.args.words.now c.loop-i.i _ _ (omega arith) (omega arith)) c.loop-i.invariant) c.in-ok-put.ensures
+loop-i-preserved c = going-put _ _ _ tt (going-by (each_more c.args.fields.now c.args.words.now c.loop-i.i _ _ (omega arith) (omega arith)) c.loop-i.invariant) c.in_ok-put.ensures
 
 pub returns : goal.returns
 returns c = going_end tt (going-by (each-end c.args.fields.now c.args.words.now _ c.loop-i-test.false) c.loop-i.invariant)

@@ -18,7 +18,7 @@ returns c =
     let old = vec_items c.args.out.now in
     let left = all_bytes c.args.element (texts ws) in
     let e = row-short c.args.element ws (omega arith) in
-    let d : c.to-le-bytes.result ≡ digits 2 (length ws) = c.to-le-bytes.ensures ∙ two_digits (length ws) in
-    let added : vec_items c.add.new.out ≡ old ++ digits 2 (length ws) = c.in-ok-add.ensures ∙ ap (λ l. old ++ l) d in
-    going-last {old = old} left (vec_items c.put-all.new.out) c.put-all.result
-    (going_more (digits 2 (length ws)) (vec_items c.add.new.out) left (going-by e (going_start _ old)) added) c.put-all.ensures
+    let d : c.to_le_bytes.result ≡ digits 2 (length ws) = c.to_le_bytes.ensures ∙ two_digits (length ws) in
+    let added : vec_items c.add.new.out ≡ old ++ digits 2 (length ws) = c.in_ok-add.ensures ∙ ap (λ l. old ++ l) d in
+    going-last {old = old} left (vec_items c.put_all.new.out) c.put_all.result
+    (going_more (digits 2 (length ws)) (vec_items c.add.new.out) left (going-by e (going_start _ old)) added) c.put_all.ensures

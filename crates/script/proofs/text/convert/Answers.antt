@@ -6,11 +6,11 @@ use Rattle.script.proofs.text.convert.Goals as goal
 
 pub loop-each-init : goal.loop-each-init
 loop-each-init c =
-    let whole = ap lines_rest c.into-iter-each-iterator.ensures.into-iter-gives ∙ c.lines-each-items.ensures.rest in
+    let whole = ap lines_rest c.into_iter-each-iterator.ensures.into_iter_gives ∙ c.lines-each-items.ensures.rest in
     sofar-none _ _ _ whole c.new-out.ensures.items
 
-pub overflow-add-line : goal.overflow-add-line
-overflow-add-line c =
+pub overflow_add-line : goal.overflow_add-line
+overflow_add-line c =
     let step = c.in-Some.ensures.steps.0 in
     let few = sofar-fits _ _ _ _ _ _ c.loop-each.invariant step.0 step.2 in
     search rules

@@ -6,7 +6,7 @@ use Rattle.script.proofs.text.words.Goals as goal
 
 pub loop-word-init : goal.loop-word-init
 loop-word-init c =
-    let whole = ap split_whitespace_rest c.into-iter-word-iterator.ensures.into-iter-gives ∙ c.split-whitespace-word-items.ensures.rest in
+    let whole = ap split_whitespace_rest c.into_iter-word-iterator.ensures.into_iter_gives ∙ c.split_whitespace-word-items.ensures.rest in
     rw (whole, c.new-found.ensures.items) (λ ws h. h)
 
 pub loop-word-preserved : goal.loop-word-preserved
@@ -14,7 +14,7 @@ loop-word-preserved c =
     let first = first_of _ c.in-Some.word.now _ c.in-Some.ensures.steps in
     let old = vec_items c.loop-word.found in
     let pushed : vec_items c.push.new.self ≡ old ++ (c.in-Some.word ∷ []) =
-    c.push.ensures.items ∙ ap (λ r. cond (is_ok r) (old ++ (c.in-Some.word ∷ [])) old) c.in-ok-push.was in
+    c.push.ensures.items ∙ ap (λ r. cond (is_ok r) (old ++ (c.in-Some.word ∷ [])) old) c.in_ok-push.was in
     word_more c.args.text.now _ _ old c.in-Some.word _ c.loop-word.invariant first pushed
 
 pub returns : goal.returns

@@ -44,7 +44,7 @@ returns-in-key c = named-is Key _ c.in-key.is
 pub returns-in-paste : goal.returns-in-paste
 returns-in-paste c = named-is Paste _ c.in-paste.is
 
-not_named : (c : goal.In-default) (k : Kind) → c.args.word.now ≡ name_of k → ⊥
+not_named : (c : goal.In_default) (k : Kind) → c.args.word.now ≡ name_of k → ⊥
 not_named c Make = c.in_default.not-make
 not_named c Close = c.in_default.not-close
 not_named c Move = c.in_default.not-Move
