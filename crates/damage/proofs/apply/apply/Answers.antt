@@ -3,5 +3,5 @@ use Rattle.damage.proofs.apply.apply.Goals as goal
 
 pub returns : goal.returns
 returns c =
-    let n = c.in-ok-applied.ensures in
-    record { room = omega arith; counted = n; shown = c.put-boxes.ensures n.all n.read }
+    let n = c.in_ok-applied.ensures in
+    record { room = omega arith; counted = n; shown = c.put_boxes.ensures n.all n.read }

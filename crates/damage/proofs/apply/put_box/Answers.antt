@@ -7,8 +7,8 @@ pub loop-r-init : goal.loop-r-init
 loop-r-init c = rows_none 0 c.args.wide c.args.high c.args.head.x c.args.head.wide c.args.head.y (dot-in c.args.sent.now c.args.from c.args.head) c.args.screen.now
 
 pub loop-r-preserved : goal.loop-r-preserved
-loop-r-preserved c = drawn-more c.args.wide c.args.high c.args.head c.loop-r.r c.args.sent.now c.args.from c.args.screen.now c.loop-r.screen c.put-row.new.screen
-    c.requires.on (omega arith) c.loop-r.invariant c.put-row.ensures
+loop-r-preserved c = drawn-more c.args.wide c.args.high c.args.head c.loop-r.r c.args.sent.now c.args.from c.args.screen.now c.loop-r.screen c.put_row.new.screen
+    c.requires.on (omega arith) c.loop-r.invariant c.put_row.ensures
 
 pub returns : goal.returns
 returns c =

@@ -7,13 +7,13 @@ use Rattle.damage.proofs.Left.{sent-none, sent_by}
 use Rattle.damage.proofs.Cutting.{cell-one, cell-words-none, rect-empty, rect-full, box-length}
 use Rattle.damage.proofs.cells.send_cell.Goals as goal
 
-pub returns-then-is-empty : goal.returns-then-is-empty
-returns-then-is-empty c =
+pub returns-then-is_empty : goal.returns-then-is_empty
+returns-then-is_empty c =
     let r = c.args.cell in
     let p = c.args.pictures.now in
     let f = damaged c.args.hurt c.args.before.now c.args.after.now p in
     sent_by c.args.at c.args.at [] _ c.args.sent.now c.args.sent.now
-    (cell-words-none c.args.after.now p f r.left r.right r.top r.below (rect-empty r (f r.left r.top) c.if-is-empty.ensures)) (sent-none c.args.at c.args.sent.now)
+    (cell-words-none c.args.after.now p f r.left r.right r.top r.below (rect-empty r (f r.left r.top) c.if-is_empty.ensures)) (sent-none c.args.at c.args.sent.now)
 
 pub returns-then-not-at : goal.returns-then-not-at
 returns-then-not-at c =
@@ -23,13 +23,13 @@ returns-then-not-at c =
     sent_by c.args.at c.args.at [] _ c.args.sent.now c.args.sent.now
     (cell-words-none c.args.after.now p f r.left r.right r.top r.below (and_right _ (f r.left r.top) (sym (c.if-not-at.ensures p p)))) (sent-none c.args.at c.args.sent.now)
 
-pub send-box-requires : goal.send-box-requires
-send-box-requires c =
+pub send_box-requires : goal.send_box-requires
+send_box-requires c =
     let r = c.args.cell in
     let s = c.args.after.now in
     let p = c.args.pictures.now in
     let f = damaged c.args.hurt c.args.before.now s p in
-    let l = rect-full r c.if-is-empty.ensures in
+    let l = rect-full r c.if-is_empty.ensures in
     let e = cell-one f r.left r.right r.top r.below l.0 l.1 (sym (c.if-not-at.ensures p p)) in
     let n = ap (λ (t : List system.Rect). length (words_of s p t)) e ∙ box-length s p r.left r.right r.top r.below l.0 in
     record { inside = l; low = c.requires.low; front = c.requires.front; lent = c.requires.lent; room = omega (arith, n, c.requires.room) }
@@ -40,6 +40,6 @@ returns c =
     let s = c.args.after.now in
     let p = c.args.pictures.now in
     let f = damaged c.args.hurt c.args.before.now s p in
-    let l = rect-full r c.if-is-empty.ensures in
+    let l = rect-full r c.if-is_empty.ensures in
     let e = cell-one f r.left r.right r.top r.below l.0 l.1 (sym (c.if-not-at.ensures p p)) in
-    sent_by c.args.at c.send-box.result _ _ c.args.sent.now c.send-box.new.sent (ap (words_of s p) (sym e)) c.send-box.ensures
+    sent_by c.args.at c.send_box.result _ _ c.args.sent.now c.send_box.new.sent (ap (words_of s p) (sym e)) c.send_box.ensures

@@ -7,8 +7,8 @@ use Rattle.damage.proofs.Left.{Left, left_by, left-more, left_end, left-room}
 use Rattle.damage.proofs.Cutting.{cells-more, cells-end, even-more, low-more}
 use Rattle.damage.proofs.cells.send_cells.Goals as goal
 
-pub send-row-end-requires : goal.send-row-end-requires
-send-row-end-requires c =
+pub send_row-end-requires : goal.send_row-end-requires
+send_row-end-requires c =
     let s = c.args.after.now in
     let p = c.args.pictures.now in
     let d = desk_of s p in
@@ -43,8 +43,8 @@ loop-k-preserved c =
     let l : k < length ys = omega (arith, c.len-k-end.ensures, c.loop-k-test.true) in
     let i = c.loop-k.invariant in
     let m = left_by c.args.at c.loop-k.end (words_of s p (cells_of f xs 0 ys)) (words_of s p (cells_of f xs top (drop k ys))) _ c.args.sent.now c.loop-k.sent (cells-more s p f xs top k ys below l c.at-below.ensures) i.0 in (
-      left-more c.args.at c.loop-k.end c.send-row-end.result (words_of s p (cells_of f xs 0 ys)) (words_of s p (row_of f top below 0 xs)) (words_of s p (cells_of f xs below (drop (k + 1) ys))) c.args.sent.now c.loop-k.sent c.send-row-end.new.sent m
-          c.send-row-end.ensures c.send-row-end.auto.sent,
+      left-more c.args.at c.loop-k.end c.send_row-end.result (words_of s p (cells_of f xs 0 ys)) (words_of s p (row_of f top below 0 xs)) (words_of s p (cells_of f xs below (drop (k + 1) ys))) c.args.sent.now c.loop-k.sent c.send_row-end.new.sent m
+          c.send_row-end.ensures c.send_row-end.auto.sent,
       λ u. (even-more (λ v. front_at d u v) top k below ys l c.at-below.ensures (i.1 u)).1,
       (low-more k below ys l c.at-below.ensures i.2).1,
     )

@@ -4,8 +4,8 @@ use Rattle.damage.proofs.Left.{Left, left-start, left_by, left-more, left_end, l
 use Rattle.damage.proofs.Dots.{rows-cons, rows-nil, rows-length, row-length}
 use Rattle.damage.proofs.cells.send_dots.Goals as goal
 
-pub send-line-end-requires : goal.send-line-end-requires
-send-line-end-requires c =
+pub send_line-end-requires : goal.send_line-end-requires
+send_line-end-requires c =
     let r = c.args.cell in
     let f = seen c.args.pictures.now c.args.front in
     let w = r.right - r.left in
@@ -24,8 +24,8 @@ loop-j-preserved c =
     let j = c.loop-j.j in
     let all = dot_rows f r.left w r.top (r.below - r.top) in
     let i = left_by c.args.at c.loop-j.end all (dot_rows f r.left w j (r.below - j)) _ c.args.sent.now c.loop-j.sent (rows-cons f r.left w j r.below c.loop-j-test.true) c.loop-j.invariant in
-    left-more c.args.at c.loop-j.end c.send-line-end.result all (dot_row f r.left w j) (dot_rows f r.left w (j + 1) (r.below - (j + 1))) c.args.sent.now c.loop-j.sent c.send-line-end.new.sent i c.send-line-end.ensures
-    c.send-line-end.auto.sent
+    left-more c.args.at c.loop-j.end c.send_line-end.result all (dot_row f r.left w j) (dot_rows f r.left w (j + 1) (r.below - (j + 1))) c.args.sent.now c.loop-j.sent c.send_line-end.new.sent i c.send_line-end.ensures
+    c.send_line-end.auto.sent
 
 pub returns : goal.returns
 returns c =

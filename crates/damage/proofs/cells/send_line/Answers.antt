@@ -18,7 +18,7 @@ returns-in-Some c =
     let n = r.right - r.left in
     let at = c.args.at in
     let old = c.args.sent.now in
-    let new = c.copy-out.new.out in
+    let new = c.copy_out.new.out in
     let over : Over (length p) w r = subst (λ (o : Option Window). OverIf (length p) o r) c.in-Some.is c.requires.over in
     let fx : SFits w16 c.in-Some.w.x = search rules in
     let fy : SFits w16 c.in-Some.w.y = search rules in
@@ -28,8 +28,8 @@ returns-in-Some c =
     let span : Span = record { x = c.past.result; y = c.past-in-Some.result; wide = c.wide-wide.result } in
     let sx = px over.left in
     let sy = py (line-top w r c.args.j (length p) over c.requires.inside.1.0) in
-    let yes = c.copy-out.ensures.answer ∙ line-fits p w r c.args.j at pic span old new (length p) over c.requires.inside.0 c.requires.inside.1.0 c.requires.inside.1.1 refl sx sy c.wide-wide.ensures c.requires.room in
-    let sent = line-copied p w r c.args.j at pic span old new (length p) over c.requires.inside.0 c.requires.inside.1.0 c.requires.inside.1.1 refl sx sy c.wide-wide.ensures c.requires.room (c.copy-out.ensures.done yes) in
+    let yes = c.copy_out.ensures.answer ∙ line-fits p w r c.args.j at pic span old new (length p) over c.requires.inside.0 c.requires.inside.1.0 c.requires.inside.1.1 refl sx sy c.wide-wide.ensures c.requires.room in
+    let sent = line-copied p w r c.args.j at pic span old new (length p) over c.requires.inside.0 c.requires.inside.1.0 c.requires.inside.1.1 refl sx sy c.wide-wide.ensures c.requires.room (c.copy_out.ensures.done yes) in
     subst (λ (o : Option Window). Sent at (at + c.wide-wide.result) (dot_row (seen p o) r.left n c.args.j) old new) (sym c.in-Some.is)
     (subst (λ k. Sent at (at + k) (dot_row (seen p (Some w)) r.left n c.args.j) old new) (sym c.wide-wide.ensures) sent)
 

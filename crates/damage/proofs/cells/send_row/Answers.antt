@@ -15,8 +15,8 @@ returns-then-top-below c =
     let f = damaged c.args.hurt c.args.before.now s p in
     sent_by c.args.at c.args.at [] _ c.args.sent.now c.args.sent.now (row-words-flat s p f c.args.top c.args.below 0 (lines_of c.args.xs.now) c.if-top-below.true) (sent-none c.args.at c.args.sent.now)
 
-pub send-cell-end-requires : goal.send-cell-end-requires
-send-cell-end-requires c =
+pub send_cell-end-requires : goal.send_cell-end-requires
+send_cell-end-requires c =
     let s = c.args.after.now in
     let p = c.args.pictures.now in
     let d = desk_of s p in
@@ -52,8 +52,8 @@ loop-k-preserved c =
     let l : k < length xs = omega (arith, c.len-k-end.ensures, c.loop-k-test.true) in
     let i = c.loop-k.invariant in
     let m = left_by c.args.at c.loop-k.end (words_of s p (row_of f top below 0 xs)) (words_of s p (row_of f top below a (drop k xs))) _ c.args.sent.now c.loop-k.sent (row_more s p f top below a k xs b l c.at-right.ensures) i.0 in (
-      left-more c.args.at c.loop-k.end c.send-cell-end.result (words_of s p (row_of f top below 0 xs)) (words_of s p (cell f a b top below)) (words_of s p (row_of f top below b (drop (k + 1) xs))) c.args.sent.now c.loop-k.sent c.send-cell-end.new.sent m
-          c.send-cell-end.ensures c.send-cell-end.auto.sent,
+      left-more c.args.at c.loop-k.end c.send_cell-end.result (words_of s p (row_of f top below 0 xs)) (words_of s p (cell f a b top below)) (words_of s p (row_of f top below b (drop (k + 1) xs))) c.args.sent.now c.loop-k.sent c.send_cell-end.new.sent m
+          c.send_cell-end.ensures c.send_cell-end.auto.sent,
       λ j. (even-more (λ v. front_at d v j) a k b xs l c.at-right.ensures (i.1 j)).1,
       (low-more k b xs l c.at-right.ensures i.2).1,
     )

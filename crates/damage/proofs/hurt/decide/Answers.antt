@@ -17,13 +17,13 @@ use Rattle.damage.proofs.hurt.decide.Goals as goal
 pub returns-then-not-taken : goal.returns-then-not-taken
 returns-then-not-taken c z bs p t = none-refused z (desk_of c.args.before.now p) (meaning bs c.args.e) (sym t ∙ c.if-not-taken.true)
 
-pub returns-then-lies-at : goal.returns-then-lies-at
-returns-then-lies-at c z bs p t =
+pub returns-then-lies_at : goal.returns-then-lies_at
+returns-then-lies_at c z bs p t =
     let d = desk_of c.args.before.now p in
     let m = c.in-Move in
     let fx : SFits w16 c.in-Move.x = search rules in
     let fy : SFits w16 c.in-Move.y = search rules in
-    let e : true ≡ (same_place (view p c.window.result).x m.x && same_place (view p c.window.result).y m.y) = simp to_z-of_z at (c.if-lies-at.ensures p) in
+    let e : true ≡ (same_place (view p c.window.result).x m.x && same_place (view p c.window.result).y m.y) = simp to_z-of_z at (c.if-lies_at.ensures p) in
     subst (λ (e : Event). (i j : ℕ) → damage (sizes_of z) d (meaning bs e) i j ≡ false) (sym m.is)
     (none-moved z d m.program m.window m.x m.y (sym (e ∙ ap (λ (w : desk.Window). same_place w.x m.x && same_place w.y m.y) (c.window.ensures.value d p refl))))
 
@@ -51,14 +51,14 @@ returns-in-Show c z bs p t =
     subst (λ (e : Event). taken (sizes_of z) d (meaning bs e) ≡ c.args.taken → Decided (sizes_of z) d (meaning bs e) a.result) (sym m.is)
     (λ k. show-decided z d m.program m.window a.result a.ensures.window m.on (k ∙ c.if-not-taken.false) a.ensures.how (a.ensures.area p)) (sym t)
 
-pub returns-else-lies-at : goal.returns-else-lies-at
-returns-else-lies-at c z bs p t =
+pub returns-else-lies_at : goal.returns-else-lies_at
+returns-else-lies_at c z bs p t =
     let d = desk_of c.args.before.now p in
     let m = c.in-Move in
     let a = c.about-in-Move in
     let fx : SFits w16 c.in-Move.x = search rules in
     let fy : SFits w16 c.in-Move.y = search rules in
-    let e : false ≡ (same_place (view p c.window.result).x m.x && same_place (view p c.window.result).y m.y) = simp to_z-of_z at (c.if-lies-at.ensures p) in
+    let e : false ≡ (same_place (view p c.window.result).x m.x && same_place (view p c.window.result).y m.y) = simp to_z-of_z at (c.if-lies_at.ensures p) in
     subst (λ (e : Event). taken (sizes_of z) d (meaning bs e) ≡ c.args.taken → Decided (sizes_of z) d (meaning bs e) a.result) (sym m.is)
     (λ k. move-decided z d m.program m.window a.result a.ensures.window m.x m.y (k ∙ c.if-not-taken.false)
     (sym (e ∙ ap (λ (w : desk.Window). same_place w.x m.x && same_place w.y m.y) (c.window.ensures.value d p refl))) a.ensures.how (a.ensures.area p)) (sym t)

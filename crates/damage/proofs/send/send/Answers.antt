@@ -26,17 +26,17 @@ returns-in_default c =
       low = omega arith;
     }
 
-pub overflow-cast-z : goal.overflow-cast-z
+pub overflow_cast-z : goal.overflow_cast-z
 unfolding FitsSizes
-overflow-cast-z c = let h = c.requires.old.sizes in omega (arith, h.1)
+overflow_cast-z c = let h = c.requires.old.sizes in omega (arith, h.1)
 
-pub overflow-cast-z-2 : goal.overflow-cast-z-2
+pub overflow_cast-z-2 : goal.overflow_cast-z-2
 unfolding FitsSizes
-overflow-cast-z-2 c = let h = c.requires.old.sizes in omega (arith, h.3)
+overflow_cast-z-2 c = let h = c.requires.old.sizes in omega (arith, h.3)
 
-pub send-cells-requires : goal.send-cells-requires
+pub send_cells-requires : goal.send_cells-requires
 unfolding FitsSizes
-send-cells-requires c =
+send_cells-requires c =
     let z = sizes_of c.args.z in
     let q = c.args.pictures.now in
     let s = c.args.before.now in
@@ -97,6 +97,6 @@ returns c =
     let n = sends-fit z (desk_of s p₀) (meaning c.requires.step.0 c.args.e) (c.requires.old.sound p₀).len in
     let w = ap length (is c.requires.step.0 p₀ c.requires.step.2) in
     record {
-      sent = λ bs p step. sent_by c.args.at c.send-cells.result _ _ c.args.sent.now c.send-cells.new.sent (is bs p step) c.send-cells.ensures;
-      low = omega (arith, c.send-cells.ensures.ends, n, w);
+      sent = λ bs p step. sent_by c.args.at c.send_cells.result _ _ c.args.sent.now c.send_cells.new.sent (is bs p step) c.send_cells.ensures;
+      low = omega (arith, c.send_cells.ensures.ends, n, w);
     }

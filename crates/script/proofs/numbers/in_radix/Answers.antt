@@ -27,8 +27,8 @@ returns-in_default c =
     let val = subst (λ l. c.in-Ok.n ≡ digits_value c.args.radix l) e c.in-Ok.ensures.value.1 in
     record { value = in_base-high _ _ _ _ val (omega arith); bound = tt }
 
-pub returns-in_default·2 : goal.returns-in_default·2
-returns-in_default·2 c =
+pub returns-in_default-2 : goal.returns-in_default-2
+returns-in_default-2 c =
     let d = starts_char 43 c.args.digits.now c.starts_with.result c.starts_with.ensures.cases (lit< tt) (lit< tt) in
     let e = without_leading_plus_none c.args.digits.now (λ h. both_ways _ c.if-starts_with.false (d.1 h)) in
     let none = subst (λ l. IsNumeral c.args.radix l × (digits_value c.args.radix l < 2 ^ 32) → ⊥) e c.in_default.ensures.value in

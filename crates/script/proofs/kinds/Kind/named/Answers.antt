@@ -47,7 +47,7 @@ returns-in-paste c = named-is Paste _ c.in-paste.is
 not_named : (c : goal.In_default) (k : Kind) → c.args.word.now ≡ name_of k → ⊥
 not_named c Make = c.in_default.not-make
 not_named c Close = c.in_default.not-close
-not_named c Move = c.in_default.not-Move
+not_named c Move = c.in_default.not-move
 not_named c Raise = c.in_default.not-raise
 not_named c Show = c.in_default.not-show
 not_named c Fill = c.in_default.not-fill
@@ -56,7 +56,7 @@ not_named c Copy = c.in_default.not-copy
 not_named c Offer = c.in_default.not-offer
 not_named c Point = c.in_default.not-point
 not_named c Press = c.in_default.not-press
-not_named c Key = c.in_default.not_key
+not_named c Key = c.in_default.not-key
 not_named c Paste = c.in_default.not-paste
 
 pub returns-in_default : goal.returns-in_default
