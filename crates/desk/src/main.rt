@@ -3,6 +3,7 @@
 
 mod told;
 
+use anyhow::anyhow;
 use desktop::carry::carry_out;
 use desktop::look::dot_at;
 use layout::budget::Budget;
@@ -88,7 +89,7 @@ fn start(rt: &HostRuntime) -> anyhow::Result<()> {
         .skip(1)
         .collect::<Vec<String>>(rt.alloc())?;
     let Some(z) = sizes(words.as_slice()) else {
-        return Err(USAGE.into());
+        return Err(anyhow!(USAGE));
     };
     let budget = match z.budget() {
         Ok(budget) => budget,
