@@ -6,9 +6,9 @@ use Rattle.layout.proofs.Checked.{starts}
 use Rattle.server.proofs.Beginning.{begun}
 use Rattle.server.proofs.begin.start.Goals as goal
 
-pub overflow-cast-z : goal.overflow-cast-z
+pub overflow_cast-z : goal.overflow_cast-z
 unfolding FitsSizes
-overflow-cast-z c =
+overflow_cast-z c =
     let t = starts (sizes_of c.args.z) (length c.args.pictures.now) (length c.args.work.now) (sym c.in_default.ensures) in
     let w : c.args.z.windows ≤ 255 = t.fits.4 in omega (arith, w)
 

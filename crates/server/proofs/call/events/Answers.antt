@@ -7,9 +7,9 @@ use Rattle.layout.proofs.Checked.{goes_on}
 use Rattle.server.proofs.Going.{going_start, going_more, going-refused, going-fault, going-over, used-as}
 use Rattle.server.proofs.call.events.Goals as goal
 
-pub overflow-cast-programs : goal.overflow-cast-programs
+pub overflow_cast-programs : goal.overflow_cast-programs
 unfolding FitsSizes
-overflow-cast-programs c = let h : c.args.z.programs ≤ 64 = c.requires.good.sizes.6 in omega (arith, h)
+overflow_cast-programs c = let h : c.args.z.programs ≤ 64 = c.requires.good.sizes.6 in omega (arith, h)
 
 pub events-init : goal.events-init
 events-init c = (going_start _ _ _ _ _ _ _ refl, c.requires.good, omega arith, omega arith, omega arith, omega arith, omega arith, omega arith)
@@ -37,12 +37,12 @@ events-preserved c =
     let g = goes_on (sizes_of c.args.z) c.args.lent c.events.used b in
     let r = c.in-Ok.ensures in
     let s = c.step-out.ensures in
-    let u = c.one-more-used.ensures in
-    let us : c.one-more-used.result.sent ≡ c.events.used.sent + sent_room (sizes_of c.args.z) = omega (arith, u.sent, c.requires.budget.sent) in
-    let uw : c.one-more-used.result.words ≡ c.events.used.words + words_room = omega (arith, u.words, c.requires.budget.words) in (
+    let u = c.one_more-used.ensures in
+    let us : c.one_more-used.result.sent ≡ c.events.used.sent + sent_room (sizes_of c.args.z) = omega (arith, u.sent, c.requires.budget.sent) in
+    let uw : c.one_more-used.result.words ≡ c.events.used.words + words_room = omega (arith, u.words, c.requires.budget.words) in (
       going_more _ _ _ _ _ _ _ _ _ _ _ _ _ _ i.0 _ _ _ _ _ _ _ _ (omega arith) b r.ends.0
-          (r.value ∙ ap (λ f. read_event f c.args.z.programs c.args.call.now c.events.at) c.all-kinds-kinds.ensures) s.desk s.sent_is s.words_are s.told (omega (arith, c.step-out.auto.sent)) (omega (arith, c.step-out.auto.words))
-          (used-as (sizes_of c.args.z) c.events.used c.one-more-used.result us uw),
+          (r.value ∙ ap (λ f. read_event f c.args.z.programs c.args.call.now c.events.at) c.all_kinds-kinds.ensures) s.desk s.sent_is s.words_are s.told (omega (arith, c.step-out.auto.sent)) (omega (arith, c.step-out.auto.words))
+          (used-as (sizes_of c.args.z) c.events.used c.one_more-used.result us uw),
       s.good,
       r.ends.1,
       omega (arith, r.ends.0, i.3),
@@ -59,7 +59,7 @@ returns-in-Err c =
     record {
       good = i.1;
       ran = going-fault _ _ _ _ _ _ _ _ _ _ _ _ _ _ i.0 _ _ (omega arith) (sym c.in_default.ensures)
-          (r.value ∙ ap (λ f. read_event f c.args.z.programs c.args.call.now c.events.at) c.all-kinds-kinds.ensures) refl refl refl refl refl;
+          (r.value ∙ ap (λ f. read_event f c.args.z.programs c.args.call.now c.events.at) c.all_kinds-kinds.ensures) refl refl refl refl refl;
     }
 
 pub returns : goal.returns

@@ -7,8 +7,8 @@ use Rattle.server.proofs.mailbox.copy_own.Goals as goal
 pub copy-init : goal.copy-init
 copy-init c = copied-start c.args.program c.args.words.now c.args.row.now
 
-pub copy-part-used-requires : goal.copy-part-used-requires
-copy-part-used-requires c =
+pub copy_part-used-requires : goal.copy_part-used-requires
+copy_part-used-requires c =
     let b : Bytes c.args.words.now = λ i. omega (arith, c.type_inv.words i) in
     let e = c.in-Ok.ensures in
     let q = eq-eqb c.in-Ok.to c.args.program (omega arith) in
@@ -19,7 +19,7 @@ pub copy-preserved-then-to-program : goal.copy-preserved-then-to-program
 copy-preserved-then-to-program c =
     let b : Bytes c.args.words.now = λ i. omega (arith, c.type_inv.words i) in
     let q = eq-eqb c.in-Ok.to c.args.program (omega arith) in
-    copied-mine _ _ _ _ _ _ _ _ _ _ c.copy.invariant b (omega arith) (sym c.in-Ok.ensures.value) q c.copy-part-used.ensures
+    copied-mine _ _ _ _ _ _ _ _ _ _ c.copy.invariant b (omega arith) (sym c.in-Ok.ensures.value) q c.copy_part-used.ensures
 
 pub copy-preserved : goal.copy-preserved
 copy-preserved c =

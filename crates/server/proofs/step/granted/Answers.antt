@@ -6,7 +6,7 @@ pub returns-in-Some : goal.returns-in-Some
 unfolding AllCarried
 returns-in-Some c =
     let n : c.in-Some.t.program < 256 = search rules in
-    rw c.in-Some.is (record { value = c.is-grant.ensures.value; fits = λ bs b. ((n, c.is-grant.ensures.fits bs b), tt) })
+    rw c.in-Some.is (record { value = c.is_grant.ensures.value; fits = λ bs b. ((n, c.is_grant.ensures.fits bs b), tt) })
 
 pub returns-in-None : goal.returns-in-None
 unfolding AllCarried

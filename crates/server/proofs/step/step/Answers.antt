@@ -8,20 +8,20 @@ use Rattle.server.specs.Told.{told_bytes, AllCarried}
 use Rattle.server.proofs.Telling.{stepped, told-room}
 use Rattle.server.proofs.step.step.Goals as goal
 
-pub tell-words-end-requires : goal.tell-words-end-requires
-tell-words-end-requires c =
-    let h = c.carry-out-told.ensures c.requires.good c.requires.had in
+pub tell-words_end-requires : goal.tell-words_end-requires
+tell-words_end-requires c =
+    let h = c.carry_out-told.ensures c.requires.good c.requires.had in
     record {
       had = h.had;
-      room = omega (arith, told-room c.args.z c.args.s.now c.args.pictures.now (meaning c.args.call.now c.args.e) c.carry-out-told.result h.told, c.requires.words);
+      room = omega (arith, told-room c.args.z c.args.s.now c.args.pictures.now (meaning c.args.call.now c.args.e) c.carry_out-told.result h.told, c.requires.words);
     }
 
-pub send-sent-end-requires : goal.send-sent-end-requires
-send-sent-end-requires c =
-    let h = c.carry-out-told.ensures c.requires.good c.requires.had in
+pub send-sent_end-requires : goal.send-sent_end-requires
+send-sent_end-requires c =
+    let h = c.carry_out-told.ensures c.requires.good c.requires.had in
     let s = c.args.s.now in
     let p = c.args.pictures.now in
-    let l : length p ≡ length c.carry-out-told.new.pictures = omega (arith, c.carry-out-told.auto.pictures) in
+    let l : length p ≡ length c.carry_out-told.new.pictures = omega (arith, c.carry_out-told.auto.pictures) in
     record {
       old = subst (Good (sizes_of c.args.z) s) l c.requires.good;
       new = h.good;
@@ -29,21 +29,21 @@ send-sent-end-requires c =
       step = (
         c.args.call.now,
         p,
-        stepped c.args.z c.args.e s _ p _ c.args.call.now c.carry-out-told.result c.granted-taken.result c.granted-taken.ensures.value h,
+        stepped c.args.z c.args.e s _ p _ c.args.call.now c.carry_out-told.result c.granted-taken.result c.granted-taken.ensures.value h,
       );
     }
 
 pub returns : goal.returns
 returns c =
-    let h = c.carry-out-told.ensures c.requires.good c.requires.had in
+    let h = c.carry_out-told.ensures c.requires.good c.requires.had in
     let e = meaning c.args.call.now c.args.e in
-    let w = c.tell-words-end.ensures.added in
+    let w = c.tell-words_end.ensures.added in
     record {
       good = h.good;
       desk = h.desk;
-      sent_is = c.send-sent-end.ensures.sent c.args.call.now c.args.pictures.now (stepped c.args.z c.args.e c.args.s.now _ c.args.pictures.now _ c.args.call.now c.carry-out-told.result c.granted-taken.result c.granted-taken.ensures.value h);
+      sent_is = c.send-sent_end.ensures.sent c.args.call.now c.args.pictures.now (stepped c.args.z c.args.e c.args.s.now _ c.args.pictures.now _ c.args.call.now c.carry_out-told.result c.granted-taken.result c.granted-taken.ensures.value h);
       words_are = added-as _ _ _ _ _ _ (ap told_bytes h.told) w;
-      told = subst AllCarried h.told (c.granted-taken.ensures.fits c.args.s.now.clip.bytes c.tell-words-end.ensures.bytes);
-      sent_low = c.send-sent-end.ensures.low;
-      words_low = omega (arith, w.ends, told-room c.args.z c.args.s.now c.args.pictures.now e c.carry-out-told.result h.told);
+      told = subst AllCarried h.told (c.granted-taken.ensures.fits c.args.s.now.clip.bytes c.tell-words_end.ensures.bytes);
+      sent_low = c.send-sent_end.ensures.low;
+      words_low = omega (arith, w.ends, told-room c.args.z c.args.s.now c.args.pictures.now e c.carry_out-told.result h.told);
     }

@@ -7,10 +7,10 @@ pub returns-in_default : goal.returns-in_default
 returns-in_default c =
     record { added = told_none c.args.at c.args.source.now c.args.told c.args.words.now c.in_default.is; bytes = λ i. omega (arith, c.type_inv.source i) }
 
-pub returns-in-Some-write-word : goal.returns-in-Some-write-word
-returns-in-Some-write-word c =
+pub returns-in-Some-write_word : goal.returns-in-Some-write_word
+returns-in-Some-write_word c =
     record {
-      added = told-some c.args.at _ c.args.source.now c.args.told c.in-Some.t c.args.words.now _ c.in-Some.is c.in-Some-write-word.ensures.2;
+      added = told-some c.args.at _ c.args.source.now c.args.told c.in-Some.t c.args.words.now _ c.in-Some.is c.in-Some-write_word.ensures.2;
       bytes = λ i. omega (arith, c.type_inv.source i);
     }
 
