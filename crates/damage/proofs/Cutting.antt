@@ -1,10 +1,8 @@
 -- The words of cells, one by one and row by row.
-use Rattle.std.proofs.Common.{◌≡◌, ℕ, zero, suc, ◌+◌, ◌-◌, ◌*◌, ◌<◌, ◌≤◌, Bool, true, false, ◌&&◌, ltb, leb, List, [], ◌∷◌, ◌++◌, map, length, get_or, drop, sym, refl, ap, ◌∙◌, subst, arith, le-ltb, lt-ltb}
-use mathlib.Core.Path.{fun_ext}
+use Rattle.std.proofs.Common.{◌≡◌, ℕ, ◌+◌, ◌-◌, ◌*◌, ◌<◌, ◌≤◌, Bool, true, false, ◌&&◌, ltb, List, [], ◌∷◌, ◌++◌, length, get_or, drop, sym, refl, ap, ◌∙◌, subst, arith, le-ltb, lt-ltb}
 use Rattle.std.proofs.lemmas.Bool.Decides.{nat_tests}
-use Rattle.std.proofs.lemmas.Bool.{and_left, and_right, and_parts}
-use Rattle.std.proofs.lemmas.List.{append-nil, append_assoc, map-append, length-append, drop_more, drop_all}
-use Rattle.model.specs.Basics.{pick}
+use Rattle.std.proofs.lemmas.Bool.{and_left, and_right}
+use Rattle.std.proofs.lemmas.List.{append-nil, append_assoc, drop_more, drop_all}
 use Rattle.model.specs.Desk.{dot}
 use Rattle.model.specs.System as system
 use Rattle.model.specs.System.{coloured}
@@ -13,7 +11,7 @@ use Rattle.model.proofs.Picks.{pick_true, pick-false}
 use Rattle.layout.specs.State.{desk_of}
 use Rattle.layout.specs.declared.state.State.{State}
 use Rattle.geometry.specs.declared.Rect.{Rect}
-use Rattle.geometry.specs.Boxes.{Empty, in_rect}
+use Rattle.geometry.specs.Boxes.{Empty}
 use Rattle.damage.specs.Encode.{encode}
 use Rattle.damage.specs.Cells.{dot_rows, words_of, row_of, cells_of, Even, Low}
 use Rattle.damage.proofs.Dots.{coloured-rows, rows-length}

@@ -1,20 +1,18 @@
 -- What an event damages, by its kind.
-use Rattle.std.proofs.Common.{◌≡◌, ℕ, zero, suc, ◌+◌, Bool, true, false, not, ◌&&◌, ◌||◌, eqb, ltb, leb, ◌⊎◌, List, length, ℤ, pos, ◌+ℤ◌, ◌-ℤ◌, sym, refl, ap, ◌∙◌, subst, inl, inr, add-one, arith, eqb-true}
-use lib.Signed.{lt_z, le_z, mag}
+use Rattle.std.proofs.Common.{◌≡◌, ℕ, suc, ◌+◌, Bool, true, false, not, ◌&&◌, ◌||◌, eqb, leb, List, length, ℤ, pos, sym, refl, ap, ◌∙◌, subst, inl, inr, add-one, arith, eqb-true}
 use Rattle.std.proofs.lemmas.Bool.Decides.{nat_tests}
 use Rattle.std.proofs.lemmas.Bool.{and_parts, and_left, and_right, cases_Bool}
-use Rattle.model.specs.Basics.{pick, in_box}
-use Rattle.model.specs.Desk as desk
-use Rattle.model.specs.Desk.{Desk, Event, Word, Window, after, does, window, with_window, front, in_window, mine, kind, sender, box_fits, make, close, move, raise, show, fill, put, copy, offer, point, press, key, paste}
+use Rattle.model.specs.Basics.{in_box}
+use Rattle.model.specs.Desk.{Desk, Event, Word, Window, after, does, window, with_window, in_window, mine, kind, make, close, move, raise, show, fill, put, copy, offer, point, press, key, paste}
 use Rattle.model.specs.Promise.{subject}
-use Rattle.model.specs.System.{front_at, in_painted, same_place, taken, turned, hurt, damage, quiet}
+use Rattle.model.specs.System.{front_at, in_painted, same_place, taken, turned, hurt, damage}
 use Rattle.model.specs.Grid.{painted_box}
 use Rattle.model.proofs.Picks.{by-pick}
 use Rattle.model.proofs.Windows.{window-field, mine-there}
 use Rattle.model.proofs.Damage.{quiet-undamaged, same-place-is}
 use Rattle.model.proofs.Fronts.{front_same, front-in}
 use Rattle.model.proofs.Places.{from-left, left-of, right_of}
-use Rattle.stack.proofs.Fronts.{Lies, lies}
+use Rattle.stack.proofs.Fronts.{lies}
 use Rattle.protocol.specs.Meaning.{part}
 use Rattle.protocol.specs.declared.types.Part.{Part}
 use Rattle.protocol.proofs.Rows.{length-numbers}
@@ -24,7 +22,7 @@ use Rattle.damage.specs.declared.types.Placed.{Placed}
 use Rattle.damage.specs.declared.types.How.{How}
 use Rattle.damage.specs.declared.types.How.TheVariants.{Turned, Moved, Painted}
 use Rattle.damage.specs.declared.types.Hurt.{Hurt}
-use Rattle.damage.specs.Hurts.{in_placed, Placing, hurts_by, hurts, Decided}
+use Rattle.damage.specs.Hurts.{in_placed, Placing, hurts_by, Decided}
 
 -- nothing, at a request that is refused and at an event about no window
 or_right : (a b : Bool) → b ≡ true → (a || b) ≡ true

@@ -1,8 +1,8 @@
 -- The dots of a box, row by row.
-use Rattle.std.proofs.Common.{◌≡◌, ℕ, zero, suc, ◌+◌, ◌-◌, ◌*◌, ◌/◌, ◌%◌, ◌<◌, ◌≤◌, Bool, true, false, ◌&&◌, List, [], ◌∷◌, ◌++◌, map, length, get_or, sym, refl, ap, ◌∙◌, subst, add_assoc, zero-add, zero-mul, add-one, one-add, arith}
+use Rattle.std.proofs.Common.{◌≡◌, ℕ, zero, suc, ◌+◌, ◌-◌, ◌*◌, ◌/◌, ◌%◌, ◌<◌, ◌≤◌, [], ◌∷◌, ◌++◌, length, sym, refl, ap, ◌∙◌, zero-add, zero-mul, add-one, arith}
 use lib.Arith.{digits_mod, digits_div}
 use Rattle.model.specs.System.{Rect, tabled, coloured}
-use Rattle.model.proofs.Boxes.{tabled-at, tabled-length}
+use Rattle.model.proofs.Boxes.{tabled-length}
 use Rattle.std.proofs.lemmas.List.{length-append}
 use Rattle.damage.specs.Cells.{dot_row, dot_rows}
 

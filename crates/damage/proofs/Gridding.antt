@@ -1,19 +1,18 @@
 -- What is written is what an event sends: its grid, and the room that it takes.
-use Rattle.std.proofs.Common.{◌≡◌, ℕ, zero, suc, pred, ◌+◌, ◌-◌, ◌*◌, ◌<◌, ◌≤◌, Bool, true, false, not, ◌&&◌, ◌||◌, eqb, ltb, leb, List, [], ◌∷◌, ◌++◌, map, length, get_or, ℤ, pos, ◌+ℤ◌, Some, None, Option, sym, refl, ap, ◌∙◌, subst, arith, le-leb}
+use Rattle.std.proofs.Common.{◌≡◌, ℕ, pred, ◌+◌, ◌*◌, ◌<◌, ◌≤◌, Bool, true, false, ◌&&◌, List, [], ◌∷◌, ◌++◌, map, length, get_or, ℤ, pos, ◌+ℤ◌, Some, None, Option, sym, refl, ap, ◌∙◌, subst, arith, le-leb}
 use mathlib.Core.Path.{fun_ext}
 use borrow.Author.Tests.{lt-leb}
 use Rattle.std.proofs.lemmas.Nat.{mul-le}
 use Rattle.std.proofs.lemmas.Bool.{and_right}
-use Rattle.model.specs.Basics.{pick, bit}
+use Rattle.model.specs.Basics.{bit}
 use Rattle.model.specs.Desk as desk
 use Rattle.model.specs.Desk.{Desk, Event, after, window, dot, front, in_window}
 use Rattle.model.specs.Promise.{subject}
-use Rattle.model.specs.System.{front_at, turned, damage, covered, coloured, on}
-use Rattle.model.specs.Grid.{grid, cells, sorted, edges, across, down, Painted, painted_box, x_edges, y_edges}
-use Rattle.model.proofs.Picks.{by-pick, bit-small}
+use Rattle.model.specs.System.{front_at, damage, coloured, on}
+use Rattle.model.specs.Grid.{grid, cells, sorted, Painted, painted_box, x_edges, y_edges}
 use Rattle.model.proofs.Fronts.{front_same}
 use Rattle.model.proofs.Boxes.{coloured-formed, coloured-count, none-formed}
-use Rattle.model.proofs.Cells.{Agree, From, Upto, Rising, sorted-rising, sorted-upto, sorted-agree, from-agree, from-zero-all}
+use Rattle.model.proofs.Cells.{Agree, Upto, Rising, sorted-rising, sorted-upto, sorted-agree, from-agree, from-zero-all}
 use Rattle.model.proofs.Grid.{front-x, front-y, x-upto, y-upto, after-off, grid-exact, grid-length}
 use Rattle.stack.specs.View.{view, slots_of, size_of}
 use Rattle.stack.specs.declared.state.Window.{Window}
@@ -21,7 +20,7 @@ use Rattle.stack.proofs.Slots.{window-at}
 use Rattle.stack.proofs.Packed.{begins-at, ending-next, ending-area}
 use Rattle.layout.specs.Sizes.{sizes_of}
 use Rattle.layout.specs.State.{desk_of, Good}
-use Rattle.layout.specs.Budget.{sent_room, boxes}
+use Rattle.layout.specs.Budget.{sent_room}
 use Rattle.layout.specs.declared.sizes.Sizes.{Sizes}
 use Rattle.layout.specs.declared.state.State.{State}
 use Rattle.damage.specs.declared.types.How.{How}
@@ -34,7 +33,7 @@ use Rattle.damage.specs.Cover.{sends_at}
 use Rattle.damage.specs.Lines.{grid_edges}
 use Rattle.damage.specs.Hurts.{Placing, hurts_by, hurts, Decided}
 use Rattle.damage.specs.Cells.{words_of, damaged, cells_of, Even, Low, Lent}
-use Rattle.damage.proofs.Area.{areas, areas-fit, sent-length}
+use Rattle.damage.proofs.Area.{areas-fit, sent-length}
 use Rattle.damage.proofs.Cutting.{cells-lines}
 
 -- from each line up to the next, what no edge parts is the same

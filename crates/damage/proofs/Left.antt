@@ -1,6 +1,6 @@
 -- Words that are sent one after another: all is to be sent from at₀ on; the place is at, and left is still to come.
-use Rattle.std.proofs.Common.{◌≡◌, ℕ, zero, suc, ◌+◌, ◌<◌, ◌≤◌, List, [], ◌∷◌, ◌++◌, length, get_or, take, drop, set, sym, refl, ap, ◌∙◌, add-zero, arith}
-use Rattle.std.proofs.lemmas.List.{append_assoc, append-nil, length-append, length-set, length-take-le, take_at, take-set, take_more_set, take-set-le, take_more}
+use Rattle.std.proofs.Common.{◌≡◌, ℕ, ◌+◌, ◌<◌, ◌≤◌, List, [], ◌∷◌, ◌++◌, length, get_or, take, drop, set, sym, refl, ap, ◌∙◌, arith}
+use Rattle.std.proofs.lemmas.List.{append_assoc, append-nil, length-append, length-set, length-take-le, take_at, take_more_set}
 use Rattle.pixels.specs.Runs.{Changed}
 use Rattle.pixels.proofs.Laws.{changed-list}
 use Rattle.damage.specs.Encode.{Sent}

@@ -1,12 +1,12 @@
 -- What the window in front shows over a box.
-use Rattle.std.proofs.Common.{◌≡◌, ℕ, zero, suc, ◌+◌, ◌-◌, ◌*◌, ◌<◌, ◌≤◌, Bool, true, false, ◌&&◌, ltb, leb, List, [], ◌∷◌, ◌++◌, map, length, get_or, ℤ, pos, ◌+ℤ◌, ◌-ℤ◌, Some, None, Option, sym, refl, ap, ◌∙◌, subst, arith}
+use Rattle.std.proofs.Common.{◌≡◌, ℕ, suc, ◌+◌, ◌-◌, ◌<◌, ◌≤◌, true, List, length, get_or, ℤ, pos, ◌+ℤ◌, ◌-ℤ◌, Some, None, Option, sym, refl, ap, ◌∙◌, subst, arith}
 use lib.Signed.{lt_z, le_z, mag}
 use Rattle.std.proofs.lemmas.Bool.Decides.{nat_tests}
 use Rattle.std.proofs.lemmas.Int.{ints}
 use Rattle.geometry.specs.declared.Rect.{Rect}
 use Rattle.model.specs.Desk as desk
 use Rattle.model.specs.Desk.{Desk, dot, window, front, in_window}
-use Rattle.model.specs.System.{front_at, tabled}
+use Rattle.model.specs.System.{front_at}
 use Rattle.model.proofs.Boxes.{tabled-at}
 use Rattle.model.proofs.Fronts.{front-in}
 use Rattle.model.proofs.Places.{from-left}
@@ -15,8 +15,8 @@ use Rattle.pixels.specs.Pictures.{out_fits}
 use Rattle.pixels.specs.Runs.{Changed}
 use Rattle.pixels.specs.declared.Picture.{Picture}
 use Rattle.pixels.specs.declared.Span.{Span}
-use Rattle.pixels.proofs.Laws.{out_fits-yes, run-fits-yes}
-use Rattle.stack.specs.View.{view, dots_of, slots_of}
+use Rattle.pixels.proofs.Laws.{out_fits-yes}
+use Rattle.stack.specs.View.{view, slots_of}
 use Rattle.stack.specs.declared.state.Window.{Window}
 use Rattle.stack.proofs.Slots.{window-at}
 use Rattle.stack.proofs.Fronts.{Lies, lies, dot-back, dot-front}

@@ -1,5 +1,5 @@
 -- The cells of the grid as they are written, and their dots.
-use Rattle.std.specs.Prelude.{◌≡◌, ℕ, zero, suc, ◌+◌, ◌*◌, ◌<◌, ◌≤◌, Bool, true, List, [], ◌∷◌, ◌++◌, map, ℤ, pos, ◌+ℤ◌, ◌-ℤ◌, Some, None, Option, int_le, slice_index_or}
+use Rattle.std.specs.Prelude.{◌≡◌, ℕ, zero, suc, ◌+◌, ◌*◌, ◌<◌, ◌≤◌, Bool, true, List, [], ◌∷◌, ◌++◌, map, pos, ◌+ℤ◌, ◌-ℤ◌, Some, None, Option, int_le, slice_index_or}
 use Rattle.std.specs.Int.Signed.{mag}
 use Rattle.geometry.specs.declared.Rect.{Rect}
 use Rattle.model.specs.Desk.{dot}

@@ -1,5 +1,5 @@
 -- What the code holds of the damage of an event.
-use Rattle.std.specs.Prelude.{◌≡◌, ℕ, suc, ◌+◌, Bool, true, false, ◌&&◌, ◌||◌, ℤ, pos, ◌+ℤ◌, Some, None, Option, ◌==◌, int_le, int_lt}
+use Rattle.std.specs.Prelude.{◌≡◌, ℕ, suc, ◌+◌, Bool, false, ◌&&◌, ◌||◌, pos, ◌+ℤ◌, Some, None, Option, ◌==◌, int_le, int_lt}
 use Rattle.model.specs.Desk.{Desk, Sizes, Window, Event, after, window}
 use Rattle.model.specs.Promise.{subject}
 use Rattle.model.specs.System.{front_at, turned, damage}

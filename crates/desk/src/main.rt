@@ -104,9 +104,5 @@ fn start(rt: &HostRuntime) -> anyhow::Result<()> {
 }
 
 fn main(rt: HostRuntime) -> anyhow::Result<()> {
-    let outcome = start(&rt);
-    if let Err(e) = &outcome {
-        eprintln!(rt; "{e}")?;
-    }
-    outcome
+    start(&rt)
 }

@@ -1,11 +1,10 @@
 -- Windows that are moved, shown and raised.
-use Rattle.std.proofs.Common.{◌≡◌, ℕ, zero, suc, ◌+◌, ◌<◌, ◌≤◌, Bool, true, false, eqb, ltb, ◌⊎◌, List, [], ◌∷◌, ◌++◌, length, get_or, set, ℤ, Some, None, Option, sym, refl, ap, ◌∙◌, subst, inl, inr, arith, lt-ltb, eq-eqb, ne_eqb}
+use Rattle.std.proofs.Common.{◌≡◌, ℕ, zero, suc, ◌+◌, ◌<◌, Bool, true, false, eqb, ltb, List, [], ◌∷◌, ◌++◌, length, get_or, set, ℤ, Some, None, Option, sym, refl, ap, ◌∙◌, subst, inl, inr, arith, lt-ltb, eq-eqb, ne_eqb}
 use Rattle.std.proofs.lemmas.Bool.{cases_eq, both_ways}
 use Rattle.model.specs.Basics.{pick}
 use Rattle.model.specs.Desk as desk
 use Rattle.model.specs.Desk.{Desk, window, with_window, with_order, mine, without, does, move, show, raise, done}
 use Rattle.model.specs.Promise.{times, one}
-use Rattle.model.proofs.Picks.{by-pick}
 use Rattle.model.proofs.Windows.{mine-there}
 use Rattle.model.proofs.Order.{one_same, one-other}
 use Rattle.stack.specs.View.{view, slots_of, windows_of, order_of, placed, shown_as, put_at, put_on, size_of}

@@ -1,15 +1,15 @@
 -- What carrying an event out owes: that the state stays good follows from what the desk does.
-use Rattle.std.proofs.Common.{◌≡◌, ℕ, ◌+◌, ◌*◌, ◌<◌, ◌≤◌, Bool, true, false, List, [], ◌∷◌, map, length, get_or, set, Some, None, Option, sym, refl, ap, ◌∙◌, subst}
+use Rattle.std.proofs.Common.{◌≡◌, ℕ, ◌+◌, ◌*◌, ◌<◌, ◌≤◌, Bool, true, false, List, [], ◌∷◌, map, length, get_or, Some, None, Option, sym, refl, ap, ◌∙◌, subst}
 use Rattle.std.proofs.lemmas.List.{length-map}
 use Rattle.model.specs.Basics.{pick}
 use Rattle.model.specs.Desk as desk
 use Rattle.model.specs.Desk.{Desk, Event, Window, Word, after, does, window, area, kind, sender, with_window, make, close, move, raise, show, fill, put, copy, offer, point, press, key, paste, done, no}
-use Rattle.model.specs.Sound.{Sound, Shaped}
+use Rattle.model.specs.Sound.{Sound}
 use Rattle.model.specs.System.{taken}
 use Rattle.model.proofs.Bare.{erased}
 use Rattle.model.proofs.Damage.{refused, refused-told}
 use Rattle.model.proofs.Sound.{after-sound}
-use Rattle.stack.specs.View.{view, slots_of, windows_of}
+use Rattle.stack.specs.View.{view, slots_of}
 use Rattle.stack.specs.Packed.{Packed}
 use Rattle.stack.proofs.Slots.{window-at}
 use Rattle.layout.specs.Sizes.{sizes_of}

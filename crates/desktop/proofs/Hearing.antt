@@ -1,5 +1,5 @@
 -- Windows that have the keys or the pointer, and what they are told.
-use Rattle.std.proofs.Common.{◌≡◌, ℕ, zero, suc, ◌+◌, ◌-◌, ◌<◌, ◌≤◌, Bool, true, false, not, ◌&&◌, eqb, leb, List, [], ◌∷◌, length, get_or, take, drop, ℤ, ◌-ℤ◌, Some, None, Option, sym, refl, ap, ◌∙◌, subst, sub-one, arith, eq-eqb, ne_eqb, le-leb}
+use Rattle.std.proofs.Common.{◌≡◌, ℕ, suc, ◌-◌, ◌<◌, ◌≤◌, true, false, not, ◌&&◌, eqb, leb, List, [], ◌∷◌, length, get_or, take, ℤ, ◌-ℤ◌, Some, None, Option, sym, refl, ap, ◌∙◌, subst, arith, eq-eqb, ne_eqb, le-leb}
 use lib.Dec.{eqb-suc-zero}
 use borrow.Author.Tests.{lt-leb}
 use Rattle.std.proofs.lemmas.Bool.{both_ways, and_left, and_right}
@@ -7,11 +7,9 @@ use Rattle.model.specs.Basics.{pick}
 use Rattle.model.specs.Desk as desk
 use Rattle.model.specs.Desk.{Desk, Word, window, front, does, with_hands, with_pointer, with_clip, listener, clamp, told_key, told_clip, told_place, press_down, press_up, offer, point, press, key, paste, typed, pasted, at, pressed, done}
 use Rattle.model.specs.Sound.{Held}
-use Rattle.model.specs.System.{taken}
 use Rattle.protocol.specs.Meaning.{part, lies}
 use Rattle.protocol.specs.declared.types.Part.{Part}
 use Rattle.protocol.specs.declared.types.Word.TheVariants.{Typed, Pasted, At, Pressed}
-use Rattle.protocol.proofs.Rows.{length-numbers}
 use Rattle.stack.specs.View.{view, slots_of, order_of, numbered}
 use Rattle.stack.specs.Found.{Found}
 use Rattle.stack.specs.declared.state.Window.{Window}
@@ -21,10 +19,9 @@ use Rattle.layout.specs.State.{desk_of, clip_in, Good}
 use Rattle.layout.specs.declared.sizes.Sizes.{Sizes}
 use Rattle.layout.specs.declared.state.State.{State}
 use Rattle.layout.specs.declared.state.Clipboard.{Clipboard}
-use Rattle.desktop.specs.declared.told.Told.{Told}
-use Rattle.desktop.specs.Does.{Carried, told_of, answered}
-use Rattle.desktop.specs.Person.{AtNumber, Known, HeardBy, Heard}
-use Rattle.desktop.proofs.Carrying.{carried, refusal}
+use Rattle.desktop.specs.Does.{Carried, answered}
+use Rattle.desktop.specs.Person.{Known, HeardBy}
+use Rattle.desktop.proofs.Carrying.{carried}
 
 -- a window's number + 1, or 0, as it was found on a desk
 abbrev pub Listens : List ℕ → Desk → ℕ → Option (ℕ × Window) → Type 0

@@ -1,14 +1,13 @@
 -- The order and the pictures in memory, from what holds of the desk.
-use Rattle.std.proofs.Common.{◌≡◌, ℕ, Bool, true, false, List, [], get_or, is_some, Some, None, Option, sym, refl, ap, ◌∙◌, subst}
+use Rattle.std.proofs.Common.{◌≡◌, ℕ, List, [], get_or, is_some, Some, None, Option, sym, refl, ap, ◌∙◌}
 use Rattle.model.specs.Basics.{pick}
 use Rattle.model.specs.Desk as desk
 use Rattle.model.specs.Desk.{Desk, window, after}
 use Rattle.model.proofs.Pictures.{after-dots}
-use Rattle.stack.specs.View.{view, dots_of, slots_of}
+use Rattle.stack.specs.View.{view, slots_of}
 use Rattle.stack.specs.declared.state.Window.{Window}
 use Rattle.stack.proofs.Slots.{window-at}
 use Rattle.layout.specs.State.{desk_of}
-use Rattle.layout.specs.declared.state.State.{State}
 use Rattle.desktop.specs.Lent.{OrderKept, PicturesKept}
 
 there-is : (p : List ℕ) (o : Option Window) → (view p o).there ≡ is_some o

@@ -1,7 +1,6 @@
 -- What is seen at a dot, by the window in front there.
-use Rattle.std.proofs.Common.{◌≡◌, ℕ, suc, Bool, true, false, ◌&&◌, List, ℤ, pos, ◌+ℤ◌, ◌-ℤ◌, Some, sym, refl, ap, ◌∙◌, arith}
-use lib.Signed.{le_z, lt_z, mag}
-use Rattle.std.proofs.lemmas.Bool.{and_parts}
+use Rattle.std.proofs.Common.{◌≡◌, ℕ, suc, true, List, ℤ, pos, ◌-ℤ◌, Some, sym, ap, ◌∙◌, arith}
+use lib.Signed.{le_z, mag}
 use Rattle.model.specs.Desk as desk
 use Rattle.model.specs.Desk.{Desk, window, front, dot, dot_of, in_window}
 use Rattle.pixels.specs.Pictures as pixels

@@ -2,10 +2,9 @@
 use Rattle.std.proofs.Common.{◌≡◌, ℕ, zero, suc, ◌+◌, ◌*◌, ◌<◌, ◌≤◌, Bool, true, false, ◌&&◌, eqb, ltb, leb, List, [], ◌∷◌, ◌++◌, map, length, get_or, set, ℤ, Some, None, Option, sym, refl, ap, ◌∙◌, subst, zero-add, arith, ltb-true, lt-ltb, leb-true}
 use Rattle.std.proofs.lemmas.Bool.{and_parts, both_ways}
 use Rattle.model.specs.Basics.{pick}
-use Rattle.model.specs.Desk as desk
-use Rattle.model.specs.Desk.{Desk, nothing, free, area, window, with_window, with_order, with_hands, mine, without, does, make, close, made, done}
+use Rattle.model.specs.Desk.{nothing, free, area, with_window, with_order, with_hands, mine, without, does, make, close}
 use Rattle.model.specs.System.{taken}
-use Rattle.stack.specs.View.{view, slots_of, windows_of, order_of, numbered, begun, packed, size_of}
+use Rattle.stack.specs.View.{view, slots_of, windows_of, order_of, numbered, packed, size_of}
 use Rattle.stack.specs.Packed.{Packed, fresh}
 use Rattle.stack.specs.declared.state.Window.{Window}
 use Rattle.stack.specs.declared.state.Stack.{Stack}
@@ -22,7 +21,7 @@ use Rattle.desktop.specs.Does.{Carried, answered}
 use Rattle.desktop.specs.Gaps.{Opened, Closed}
 use Rattle.desktop.specs.Windows.{makeable, start_of}
 use Rattle.desktop.proofs.Carrying.{carried-to}
-use Rattle.desktop.proofs.Arranging.{with-stack, desk-with, make-room}
+use Rattle.desktop.proofs.Arranging.{with-stack, make-room}
 
 -- the picture of a window that is made begins where those of lower numbers end
 made-start : (n at : ℕ) (os : List (Option Window)) (w : Window) → n < length os → start_of (get_or (packed at (set os n (Some w))) n None) ≡ ending n at os

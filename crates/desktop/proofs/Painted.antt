@@ -1,12 +1,12 @@
 -- Windows that are painted.
-use Rattle.std.proofs.Common.{◌≡◌, ℕ, zero, suc, ◌+◌, ◌*◌, ◌<◌, ◌≤◌, Bool, true, false, ◌&&◌, ltb, leb, ◌⊎◌, List, [], ◌∷◌, map, length, get_or, drop, set, Some, None, Option, sym, refl, ap, ◌∙◌, subst, add-zero, zero-add, arith, ltb-true, leb-true}
+use Rattle.std.proofs.Common.{◌≡◌, ℕ, ◌+◌, ◌*◌, ◌<◌, ◌≤◌, Bool, true, ◌&&◌, ltb, leb, ◌⊎◌, List, [], ◌∷◌, map, length, get_or, drop, set, Some, None, sym, refl, ap, ◌∙◌, subst, add-zero, arith, ltb-true, leb-true}
 use mathlib.Core.Path.{fun_ext}
 use Rattle.std.proofs.lemmas.Bool.{and_parts, both_ways}
 use Rattle.std.proofs.lemmas.List.{same_lists, get_or-drop, get_or_default, drop-drop}
 use Rattle.model.specs.Desk as desk
 use Rattle.model.specs.Desk.{Desk, Event, Word, window, with_window, painted, mine, does, done, box_fits, fill, put, copy}
 use Rattle.model.specs.System.{taken}
-use Rattle.protocol.specs.Fields.{number, numbers}
+use Rattle.protocol.specs.Fields.{number}
 use Rattle.protocol.specs.Meaning.{part, lies}
 use Rattle.protocol.specs.declared.types.Part.{Part}
 use Rattle.protocol.proofs.Rows.{length-numbers, getD-numbers}
@@ -16,7 +16,7 @@ use Rattle.pixels.specs.declared.Picture.{Picture}
 use Rattle.pixels.specs.declared.Area.{Area}
 use Rattle.pixels.specs.Colours.{colours_in, colour_at, put_fits}
 use Rattle.pixels.proofs.Laws.{colours-length, colours-place, fits-yes, copy_fits-yes, put_fits-yes}
-use Rattle.stack.specs.View.{view, dots_of, slots_of, windows_of, begun, packed, size_of}
+use Rattle.stack.specs.View.{view, dots_of, slots_of, windows_of, begun, size_of}
 use Rattle.stack.specs.declared.state.Window.{Window}
 use Rattle.stack.proofs.Packing.{ending}
 use Rattle.stack.proofs.Packed.{packed-same, begins-at, ending-next, ending-area, painted-views}

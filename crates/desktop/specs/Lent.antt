@@ -1,5 +1,5 @@
 -- What holds of the state's order and of the lent pictures.
-use Rattle.std.specs.Prelude.{◌≡◌, ℕ, Bool, true, List, length, is_some, Some, None, Option, ◌≢◌, slice_index_or}
+use Rattle.std.specs.Prelude.{◌≡◌, ℕ, true, List, is_some, Some, None, Option, ◌≢◌, slice_index_or}
 use Rattle.model.specs.Basics.{pick}
 use Rattle.model.specs.Desk.{Event, Sizes}
 use Rattle.model.specs.Promise.{times, is_paint, painter}

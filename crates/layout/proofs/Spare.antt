@@ -3,7 +3,6 @@ use Rattle.std.proofs.Common.{◌≡◌, ℕ, ◌+◌, ◌*◌, ◌/◌, ◌%◌
 use Rattle.std.specs.List.{range_with_len}
 use Rattle.std.proofs.lemmas.Bool.{eq-eqb, or_left, and_parts, leb-true}
 use Rattle.model.specs.Basics.{pick}
-use Rattle.model.specs.Desk as desk
 use Rattle.model.specs.Desk.{area}
 use Rattle.model.specs.Promise.{FitsSizes}
 use Rattle.stack.specs.View.{view, packed}

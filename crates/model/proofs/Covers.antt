@@ -1,10 +1,9 @@
 -- The promise, of the system that cuts its damage into boxes by any exact cover.
-use Rattle.std.proofs.Common.{◌≡◌, ℕ, ◌<◌, Bool, true, false, ◌&&◌, eqb, ltb, List, [], ◌∷◌, map, refl, ap, ◌∙◌, subst, lt-ltb}
+use Rattle.std.proofs.Common.{◌≡◌, eqb, map, refl, ap, ◌∙◌, subst, lt-ltb}
 use Rattle.std.proofs.lemmas.Bool.{and_from}
 use Rattle.model.specs.Basics.{pick, bit}
 use Rattle.model.specs.Desk.{Desk, Sizes, Event, after, dot}
-use Rattle.model.specs.System.{System, Cover, Exact, covered, coloured, damage, on, start, happens, sends, tells}
-use Rattle.model.specs.Promise.{with_boxes}
+use Rattle.model.specs.System.{System, Cover, Exact, coloured, on, start, happens, sends, tells}
 use Rattle.model.specs.Kept.{Shows, Step, Simulates, Kept, EveryCover}
 use Rattle.model.proofs.Boxes.{with_boxes-is, coloured-count, coloured-formed}
 use Rattle.model.proofs.Simulate.{simulated}

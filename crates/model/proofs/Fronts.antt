@@ -1,11 +1,11 @@
 -- What stands in front, before and after a change of one window.
 use Rattle.std.proofs.Common.{◌≡◌, ℕ, zero, suc, Bool, true, false, eqb, ◌⊎◌, List, [], ◌∷◌, ◌++◌, ℤ, pos, ◌-ℤ◌, sym, refl, ap, ◌∙◌, subst, inl, inr, arith, eqb-true}
 use lib.Dec.{eqb-suc-zero}
-use lib.Signed.{le_z, mag}
+use lib.Signed.{mag}
 use borrow.Author.Tests.{eqb-false}
 use Rattle.std.proofs.lemmas.Bool.{and_parts, and_left, and_right}
 use Rattle.model.specs.Basics.{pick}
-use Rattle.model.specs.Desk.{Desk, Window, window, front, in_window, without, dot, dot_of}
+use Rattle.model.specs.Desk.{Desk, Window, window, front, in_window, without}
 use Rattle.model.proofs.Picks.{by-pick}
 
 -- what is in front lies there

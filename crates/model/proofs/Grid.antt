@@ -1,12 +1,12 @@
 -- What is in front is one window over all of a cell, so the cells of the grid of edges cover the damage of an event exactly.
-use Rattle.std.proofs.Common.{◌≡◌, ℕ, zero, suc, pred, ◌+◌, ◌-◌, ◌*◌, ◌<◌, ◌≤◌, min, Bool, true, false, not, ◌&&◌, ◌||◌, eqb, ltb, leb, ◌⊎◌, List, [], ◌∷◌, ◌++◌, length, get_or, ℤ, pos, ◌+ℤ◌, ◌-ℤ◌, sym, refl, ap, ◌∙◌, subst, inl, inr, arith, eqb-true}
+use Rattle.std.proofs.Common.{◌≡◌, ℕ, zero, suc, pred, ◌+◌, ◌*◌, ◌<◌, ◌≤◌, min, Bool, true, not, ◌&&◌, eqb, ltb, leb, List, [], ◌∷◌, ◌++◌, length, get_or, ℤ, pos, ◌+ℤ◌, ◌-ℤ◌, sym, refl, ap, ◌∙◌, subst, inl, inr, arith, eqb-true}
 use lib.Signed.{lt_z, le_z, mag}
 use Rattle.std.proofs.lemmas.Bool.Decides.{nat_tests}
 use Rattle.std.proofs.lemmas.Bool.{and_parts, cases_Bool, cases_eq}
-use Rattle.model.specs.Basics.{pick, bit, in_box}
-use Rattle.model.specs.Desk.{Desk, Sizes, Event, Window, Word, nothing, after, does, run, empty, window, with_window, with_order, with_hands, front, in_window, mine, without, box_fits, kind, sender, make, close, move, raise, show, fill, put, copy, offer, point, press, key, paste}
+use Rattle.model.specs.Basics.{in_box}
+use Rattle.model.specs.Desk.{Desk, Sizes, Event, Window, Word, nothing, after, does, run, empty, window, with_window, front, in_window, mine, without, box_fits, kind, sender, make, close, move, raise, show, fill, put, copy, offer, point, press, key, paste}
 use Rattle.model.specs.Promise.{subject}
-use Rattle.model.specs.System.{covered, front_at, in_painted, same_place, taken, hurt, damage, on, Exact}
+use Rattle.model.specs.System.{front_at, in_painted, taken, hurt, damage, Exact}
 use Rattle.model.specs.Grid.{from_zero, insert, sorted, cells, edges, across, down, Painted, painted_box, x_edges, y_edges, grid, FewBoxes}
 use Rattle.model.proofs.Picks.{by-pick}
 use Rattle.model.proofs.Windows.{window-other, order-window, hands-window}

@@ -1,8 +1,7 @@
 -- A window's picture is changed by its owner's paint only: of any desk, with no invariant.
-use Rattle.std.proofs.Common.{◌≡◌, ℕ, zero, suc, ◌+◌, ◌-◌, ◌*◌, Bool, true, false, not, ◌&&◌, eqb, ltb, leb, ◌⊎◌, List, [], ◌∷◌, ◌++◌, length, refl, ap, ◌∙◌, inl, inr}
+use Rattle.std.proofs.Common.{◌≡◌, ℕ, ◌+◌, ◌-◌, ◌*◌, true, false, not, ◌&&◌, eqb, ltb, leb, List, length, refl, ap, ◌∙◌, inl, inr}
 use Rattle.std.proofs.lemmas.Bool.{and_parts, both_ways, cases_eq}
-use Rattle.model.specs.Basics.{pick}
-use Rattle.model.specs.Desk.{Desk, Sizes, Event, Window, Word, nothing, after, does, run, empty, window, with_window, with_order, with_hands, front, free, area, without, mine, box_fits, kind, sender, make, close, move, raise, show, fill, put, copy, offer, point, press, key, paste}
+use Rattle.model.specs.Desk.{Desk, Sizes, Event, Window, Word, nothing, after, does, run, empty, window, with_window, with_order, with_hands, front, free, area, mine, box_fits, kind, sender, make, close, move, raise, show, fill, put, copy, offer, point, press, key, paste}
 use Rattle.model.specs.Promise.{ByOwner, ByPaint, is_paint, painter}
 use Rattle.model.proofs.Picks.{by-pick}
 use Rattle.model.proofs.Windows.{window-other, order-window, hands-window, clip-window, pointer-window, down-window, up-window, not_free, not-mine, window-field, gone-window}

@@ -1,5 +1,5 @@
 -- Places with sign: a dot of a window counted from its upper left one, and edges on the screen.
-use Rattle.std.proofs.Common.{◌≡◌, ℕ, Bool, true, T, ltb, leb, ℤ, pos, negsuc, ◌+ℤ◌, ◌-ℤ◌, ◌≤ℤ◌, sym, refl, subst, arith}
+use Rattle.std.proofs.Common.{◌≡◌, ℕ, true, T, ltb, leb, ℤ, pos, negsuc, ◌+ℤ◌, ◌-ℤ◌, ◌≤ℤ◌, sym, refl, subst, arith}
 use lib.Dec.{leb-zero, leb-suc-zero}
 use lib.Signed.{lt_z, le_z, mag, le_z_yes}
 use Rattle.std.proofs.lemmas.Int.{ints}

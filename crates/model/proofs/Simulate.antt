@@ -1,10 +1,10 @@
 -- The promise from single steps: a system that stands for the desk, and keeps standing for it at each event, keeps the promise.
-use Rattle.std.proofs.Common.{◌≡◌, ℕ, suc, ◌<◌, ◌≤◌, Bool, true, false, ◌&&◌, ltb, ◌⊎◌, List, [], ◌∷◌, ◌++◌, length, get_or, sym, refl, ap, ◌∙◌, subst, inl, inr, arith, le-ltb, lt-ltb}
-use Rattle.std.proofs.lemmas.Bool.{and_from, and_left, and_right, cases_Bool}
-use Rattle.model.specs.Basics.{pick, bit, in_box}
+use Rattle.std.proofs.Common.{◌≡◌, ℕ, ◌<◌, ◌≤◌, false, ◌&&◌, ltb, ◌⊎◌, List, [], ◌∷◌, ◌++◌, sym, refl, ap, ◌∙◌, subst, inl, inr, arith, le-ltb}
+use Rattle.std.proofs.lemmas.Bool.{and_left, and_right, cases_Bool}
+use Rattle.model.specs.Basics.{bit}
 use Rattle.model.specs.Desk.{Desk, Sizes, Event, Word, after, run, told, words_to, empty, dot, dot_of, front}
 use Rattle.model.specs.Promise.{Box, with_boxes, screen, all_told, goes, in_boxes, SameScreen, SameTold, Once, OnlyChanged, AllFit, FitsSizes}
-use Rattle.model.specs.System.{damage, on, Formed}
+use Rattle.model.specs.System.{damage, on}
 use Rattle.model.specs.Kept.{Shows, Step, Simulates, Simulation, Kept, SendsDamage, SendsFormed, SendsNothing, UnseenBy, UnseenOf, last_sent}
 use Rattle.model.proofs.Picks.{bit-small, bit-some}
 use Rattle.model.proofs.Damage.{outside, damage-touched, quiet-undamaged}

@@ -1,7 +1,6 @@
 -- Windows by number: what a change of the desk leaves of them.
-use Rattle.std.proofs.Common.{◌≡◌, ℕ, zero, suc, Bool, true, false, eqb, List, [], ◌∷◌, get_or, set, ℤ, refl, ap, ◌∙◌, get_or-set_other, eqb-true}
+use Rattle.std.proofs.Common.{◌≡◌, ℕ, zero, suc, true, false, List, [], ◌∷◌, get_or, set, ℤ, refl, ap, ◌∙◌, get_or-set_other, eqb-true}
 use Rattle.std.proofs.lemmas.Bool.{and_parts, both_ways}
-use Rattle.model.specs.Basics.{pick}
 use Rattle.model.specs.Desk.{Desk, Window, Word, nothing, window, with_window, with_order, with_pointer, with_hands, with_clip, free, mine, painted, press_down, press_up}
 use Rattle.model.proofs.Picks.{by-pick}
 

@@ -1,6 +1,6 @@
 -- The desk: windows of several programs, each with a picture of its own, one screen, one pointer, one keyboard, and what programs are told.
 -- This is the plain description that a system has to serve. There are no regions, caches or buffers in it.
-use Rattle.std.specs.Prelude.{◌≡◌, ℕ, zero, suc, ◌+◌, ◌-◌, ◌*◌, Bool, true, false, not, ◌&&◌, List, [], ◌∷◌, ◌++◌, length, replicate, ℤ, pos, ◌+ℤ◌, ◌-ℤ◌, ◌==◌, int_le, int_lt, nat_le, nat_lt, slice_index, slice_index_or, slice_set}
+use Rattle.std.specs.Prelude.{ℕ, zero, suc, ◌+◌, ◌-◌, ◌*◌, Bool, true, false, not, ◌&&◌, List, [], ◌∷◌, ◌++◌, length, replicate, ℤ, pos, ◌+ℤ◌, ◌-ℤ◌, ◌==◌, int_le, int_lt, nat_le, nat_lt, slice_index, slice_index_or, slice_set}
 use Rattle.std.specs.Int.Signed.{mag}
 use Rattle.model.specs.Basics.{pick, in_box}
 

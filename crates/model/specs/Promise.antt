@@ -2,7 +2,7 @@
 use Rattle.std.specs.Prelude.{◌≡◌, ℕ, zero, suc, ◌+◌, ◌-◌, ◌*◌, ◌<◌, ◌≤◌, Bool, true, false, ◌&&◌, ◌≢◌, ◌⊎◌, List, [], ◌∷◌, ◌++◌, length, ℤ, pos, ◌-ℤ◌, neg_ℤ, ◌≤ℤ◌, slice_index, slice_index_or}
 use Rattle.std.specs.Int.Signed.{mag}
 use Rattle.model.specs.Basics.{pick, in_box}
-use Rattle.model.specs.Desk.{Desk, Sizes, Event, Window, Word, after, run, told, empty, dot, window, words_to, make, close, move, raise, show, fill, put, copy, offer, point, press, key, paste, front, kind}
+use Rattle.model.specs.Desk.{Desk, Sizes, Event, Word, after, run, told, empty, dot, window, words_to, make, close, move, raise, show, fill, put, copy, offer, point, press, key, paste, front, kind}
 
 -- what is sent to the screen: a box of dots, rows from above. The screen changes in no other way
 pub record Box : Type 0 where

@@ -1,5 +1,5 @@
 -- A window system over the desk. After an event it sends the event's damage: the dots that may look different now, cut into boxes, with their new colours.
-use Rattle.std.specs.Prelude.{◌≡◌, ℕ, zero, suc, ◌+◌, ◌-◌, ◌*◌, ◌/◌, ◌%◌, ◌≤◌, Bool, true, false, not, ◌&&◌, ◌||◌, List, [], ◌∷◌, ◌++◌, map, length, ℤ, pos, ◌-ℤ◌, ◌==◌, int_le, nat_le, nat_lt}
+use Rattle.std.specs.Prelude.{◌≡◌, ℕ, zero, suc, ◌+◌, ◌-◌, ◌*◌, ◌/◌, ◌%◌, ◌≤◌, Bool, true, false, not, ◌&&◌, ◌||◌, List, [], ◌∷◌, map, length, ℤ, pos, ◌-ℤ◌, ◌==◌, int_le, nat_le, nat_lt}
 use Rattle.std.specs.Int.Signed.{mag}
 use Rattle.model.specs.Basics.{pick, in_box, bit}
 use Rattle.model.specs.Desk.{Desk, Sizes, Event, Word, after, empty, dot, window, front, free, area, mine, box_fits, kind, make, close, move, raise, show, fill, put, copy, offer, point, press, key, paste}

@@ -1,6 +1,6 @@
 -- Events worked out: a screen of 6 by 2, 4 windows, 2 programs, sides up to 6, 24 dots of all pictures.
-use Rattle.std.specs.Prelude.{◌≡◌, ℕ, zero, suc, Bool, true, false, List, [], ◌∷◌, ◌++◌, map, ℤ, pos, negsuc}
-use Rattle.model.specs.Desk.{Desk, Sizes, Event, Word, after, run, empty, dot, make, close, move, raise, show, fill, put, copy, offer, point, press, key, paste, made, done, no, at, pressed, typed, pasted}
+use Rattle.std.specs.Prelude.{◌≡◌, ℕ, true, false, List, [], ◌∷◌, ◌++◌, map, pos, negsuc}
+use Rattle.model.specs.Desk.{Desk, Sizes, Event, Word, after, run, empty, dot, make, raise, show, fill, put, point, press, key, made, done, no, at, pressed, typed}
 
 abbrev pub small : Sizes
 small = record { wide = 6; high = 2; windows = 4; programs = 2; side = 6; dots = 24; built = λ k. true }

@@ -1,11 +1,11 @@
 -- Numbers in bytes.
-use Rattle.std.proofs.Common.{◌≡◌, ℕ, zero, suc, ◌+◌, ◌*◌, ◌/◌, ◌%◌, ◌^◌, ◌<◌, ◌≤◌, true, false, List, [], ◌∷◌, ◌++◌, length, get_or, take, drop, ℤ, pos, ◌+ℤ◌, ◌-ℤ◌, nat_abs, ◌≤ℤ◌, ◌<ℤ◌, sym, refl, ap, ◌∙◌, arith}
+use Rattle.std.proofs.Common.{◌≡◌, ℕ, suc, ◌+◌, ◌*◌, ◌/◌, ◌%◌, ◌<◌, ◌≤◌, true, false, List, [], ◌∷◌, ◌++◌, length, get_or, drop, ℤ, pos, ◌+ℤ◌, ◌-ℤ◌, nat_abs, ◌≤ℤ◌, ◌<ℤ◌, refl, ap, arith}
 use native.Mathlib.Nat.{div-div-eq-div-mul}
 use lib.Signed.{lt_z}
 use Rattle.std.proofs.lemmas.Int.{ints}
 use Rattle.std.proofs.lemmas.Bool.{lt-ltb, le-ltb}
 use Rattle.std.proofs.lemmas.List.{drop_more}
-use Rattle.protocol.specs.Fields.{number, digits, numbers, all_digits, signed, unsigned, marked}
+use Rattle.protocol.specs.Fields.{number, digits, signed, unsigned}
 
 -- a number of one byte more, by its first byte
 pub number_more : (w : ℕ) (bs : List ℕ) (k : ℕ) → k < length bs → number (suc w) (drop k bs) ≡ get_or bs k 0 + 256 * number w (drop (k + 1) bs)

@@ -1,13 +1,13 @@
 -- Events: what is written is read, what is read was written so, and a fault is at the first byte that no event has.
 use Rattle.std.proofs.Common.{◌≡◌, ℕ, zero, suc, ◌+◌, ◌-◌, ◌<◌, ◌≤◌, Bool, true, false, ◌&&◌, ltb, leb, List, [], ◌∷◌, ◌++◌, length, get_or, take, drop, Ok, Err, sym, refl, ap, ◌∙◌, subst, arith}
-use Rattle.std.proofs.lemmas.Bool.{ltb-true, lt-ltb, lt-leb, leb-false, and_parts, and_from, both_ways}
-use Rattle.std.proofs.lemmas.List.{append-nil, length-append, length-drop, take_at, drop_at, drop_all, take_rest}
+use Rattle.std.proofs.lemmas.Bool.{ltb-true, lt-ltb, lt-leb, and_parts, and_from, both_ways}
+use Rattle.std.proofs.lemmas.List.{append-nil, length-append, drop_at, drop_all, take_rest}
 use Rattle.model.specs.Basics.{pick}
 use Rattle.model.specs.Desk.{Event, make, close, move, raise, show, fill, put, copy, offer, point, press, key, paste, kind}
-use Rattle.protocol.specs.Fields.{all_digits, unsigned, Bytes, Field, Found, there}
+use Rattle.protocol.specs.Fields.{all_digits, unsigned, Bytes, Found}
 use Rattle.protocol.specs.Formats.{encode, event_format, decode_kind, decode_event, read_event}
-use Rattle.protocol.specs.Laws.{Carried, Sent, StandsAt, Begins, FirstFault, ReadsBack, ReadsOnly, FaultsFirst, FaultsWhereNone, Worked}
-use Rattle.protocol.proofs.Tests.{ok_same, err-same, ok-not-err, err-not-ok, by-pick, there-ok, by-there, ends-within, goes_on, stands, one_more, answer, size-read}
+use Rattle.protocol.specs.Laws.{Carried, Sent, Begins, ReadsBack, ReadsOnly, FaultsFirst, FaultsWhereNone, Worked}
+use Rattle.protocol.proofs.Tests.{err-same, ok-not-err, err-not-ok, by-pick, there-ok, by-there, ends-within, goes_on, stands, one_more, answer, size-read}
 use Rattle.protocol.proofs.FieldFaults.{heads}
 use Rattle.protocol.proofs.Sequences.{Values, apply, bytes, Fits, all_read, All-got, all-only, some-all, All-bad, past, all-faults}
 

@@ -1,9 +1,9 @@
 -- A fault in a field is at the first byte that no such field has.
-use Rattle.std.proofs.Common.{◌≡◌, ℕ, zero, suc, ◌+◌, ◌-◌, ◌*◌, ◌^◌, ◌<◌, ◌≤◌, Bool, true, false, eqb, ltb, List, [], ◌∷◌, ◌++◌, length, get_or, take, drop, replicate, Ok, Err, sym, refl, ap, ◌∙◌, subst, pow-suc, arith}
-use Rattle.std.proofs.lemmas.Bool.{ltb-true, ltb-false, eqb-true, eqb-false}
+use Rattle.std.proofs.Common.{◌≡◌, ℕ, zero, suc, ◌+◌, ◌-◌, ◌*◌, ◌^◌, ◌<◌, ◌≤◌, Bool, true, false, eqb, ltb, List, [], ◌∷◌, ◌++◌, length, get_or, take, drop, replicate, Err, sym, ap, ◌∙◌, subst, pow-suc, arith}
+use Rattle.std.proofs.lemmas.Bool.{ltb-false, eqb-false}
 use Rattle.std.proofs.lemmas.List.{append_assoc, length-append, length-drop, length-replicate, take_all, take_rest, drop_all, drop_more}
-use Rattle.protocol.specs.Fields.{Bytes, Field, program, byte, plain, near, far, mark, only, row, Says, spell, field, Found, marked, number, numbers, digits, all_digits, signed, unsigned}
-use Rattle.protocol.specs.Laws.{Near, Far, Row}
+use Rattle.protocol.specs.Fields.{Bytes, Field, program, byte, plain, near, far, mark, only, row, Says, spell, field, marked, number, numbers, digits, all_digits, signed}
+use Rattle.protocol.specs.Laws.{Row}
 use Rattle.protocol.proofs.Rows.{bytes_drop, bytes-tail, digits_number, number_small, length-numbers, numbers-small, all-digits-numbers}
 use Rattle.protocol.proofs.Signs.{stood-for}
 use Rattle.protocol.proofs.Tests.{err-same, ok-not-err, by-pick, by-there, some_more}

@@ -1,5 +1,5 @@
 -- What bytes carry is what the promises of a system ask of an event: the two say the same of each kind.
-use Rattle.model.specs.Desk.{Sizes, Event, make, close, move, raise, show, fill, put, copy, offer, point, press, key, paste}
+use Rattle.model.specs.Desk.{make, close, move, raise, show, fill, put, copy, offer, point, press, key, paste}
 use Rattle.model.specs.Promise as promise
 use Rattle.model.specs.Promise.{Fits, Colours}
 use Rattle.protocol.specs.Laws.{Carried, Near, Row}

@@ -1,12 +1,12 @@
 -- What an event that was read points to lies in the bytes that it was read from.
-use Rattle.std.proofs.Common.{◌≡◌, ℕ, suc, ◌+◌, Bool, true, false, ◌&&◌, eqb, ltb, leb, ◌⊎◌, List, length, get_or, Ok, Err, Result, sym, refl, ap, ◌∙◌, inl, inr, arith, eq-eqb, eqb-true}
+use Rattle.std.proofs.Common.{◌≡◌, ℕ, ◌+◌, Bool, true, false, ◌&&◌, eqb, ltb, leb, ◌⊎◌, List, length, get_or, Ok, Err, Result, sym, refl, ◌∙◌, inl, inr, eq-eqb, eqb-true}
 use borrow.Author.Tests.{eqb-false}
 use Rattle.protocol.proofs.Tests.{err-not-ok}
 use Rattle.model.specs.Basics.{pick}
 use Rattle.model.specs.Desk as desk
 use Rattle.model.specs.Desk.{kind}
 use Rattle.model.proofs.Picks.{by-pick}
-use Rattle.protocol.specs.Fields.{Bytes, Found, there}
+use Rattle.protocol.specs.Fields.{Bytes}
 use Rattle.protocol.specs.Formats.{read_event, decode_event, decode_kind}
 use Rattle.protocol.specs.Meaning.{said, meaning, had, Had}
 use Rattle.protocol.specs.declared.types.Event.{Event}

@@ -1,8 +1,8 @@
 -- Fields one after another: what is spelled is read, what is read is spelled so, and a fault is at the first byte that no such fields have.
-use Rattle.std.proofs.Common.{◌≡◌, ℕ, zero, suc, ◌+◌, ◌-◌, ◌<◌, ◌≤◌, List, [], ◌∷◌, ◌++◌, length, take, drop, Ok, Err, sym, refl, ap, ◌∙◌, subst, arith}
+use Rattle.std.proofs.Common.{◌≡◌, ℕ, suc, ◌+◌, ◌-◌, ◌<◌, ◌≤◌, List, [], ◌∷◌, ◌++◌, length, take, drop, Ok, Err, sym, refl, ap, ◌∙◌, subst, arith}
 use lib.Seq.{take-append-add}
 use Rattle.std.proofs.lemmas.List.{append_assoc, append_cancel_left, length-append}
-use Rattle.protocol.specs.Fields.{Bytes, Field, Says, spell, field, From, Found, then, decode}
+use Rattle.protocol.specs.Fields.{Bytes, Field, Says, spell, field, From, then, decode}
 use Rattle.protocol.proofs.Tests.{ok_same, err-same, ok-not-err, err-not-ok, by-then, ends-within, goes_on}
 use Rattle.protocol.proofs.FieldLaws.{Fit, field-reads, Got, field-only}
 use Rattle.protocol.proofs.FieldFaults.{Bad, some, some_fits, field-faults}

@@ -1,12 +1,12 @@
 -- Words: what is written is read, what is read was written so, and a fault is at the first byte that no word has.
-use Rattle.std.proofs.Common.{◌≡◌, ℕ, zero, suc, ◌+◌, ◌-◌, ◌<◌, ◌≤◌, Bool, true, false, ltb, leb, ◌⊎◌, List, [], ◌∷◌, ◌++◌, length, get_or, take, drop, Ok, Err, sym, refl, ap, ◌∙◌, subst, inl, inr, arith}
+use Rattle.std.proofs.Common.{◌≡◌, ℕ, zero, suc, ◌+◌, ◌-◌, ◌<◌, ◌≤◌, ltb, leb, List, [], ◌∷◌, ◌++◌, length, get_or, take, drop, Ok, Err, sym, refl, ap, ◌∙◌, subst, inl, inr, arith}
 use Rattle.std.proofs.lemmas.Bool.{ltb-true, ltb-false, lt-ltb, lt-leb, cases_lt}
 use Rattle.std.proofs.lemmas.List.{append-nil, length-append, drop_at, drop_all, take_rest}
 use Rattle.model.specs.Basics.{pick}
 use Rattle.model.specs.Desk.{Word, no, done, made, at, pressed, typed, pasted}
-use Rattle.protocol.specs.Fields.{Bytes, Field, Found, there}
+use Rattle.protocol.specs.Fields.{Bytes, Found}
 use Rattle.protocol.specs.Formats.{encode_word, word_format, decode_word_kind, decode_word, read_told, told}
-use Rattle.protocol.specs.Laws.{CarriedWord, spell_told, Told, StandsAt, Begins, FirstFault, ReadsWordBack, ReadsWordsOnly, WordFaultsFirst, WordFaultsWhereNone}
+use Rattle.protocol.specs.Laws.{CarriedWord, spell_told, Told, Begins, ReadsWordBack, ReadsWordsOnly, WordFaultsFirst, WordFaultsWhereNone}
 use Rattle.protocol.proofs.Tests.{ok_same, err-same, ok-not-err, err-not-ok, by-pick, there-ok, by-there, ends-within, goes_on, stands, one_more, answer, size-read}
 use Rattle.protocol.proofs.FieldFaults.{heads}
 use Rattle.protocol.proofs.Sequences.{Values, apply, bytes, Fits, all_read, All-got, all-only, All-bad, past, all-faults}

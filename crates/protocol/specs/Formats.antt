@@ -1,5 +1,5 @@
 -- THE FORMATS of events and of words: a line for each kind, with its fields in their order.
-use Rattle.std.specs.Prelude.{◌≡◌, ℕ, ◌+◌, ◌<◌, ◌≤◌, Bool, true, false, ◌&&◌, List, [], ◌∷◌, ◌++◌, length, Ok, Err, Result, nat_le, nat_lt, slice_index, slice_index_or}
+use Rattle.std.specs.Prelude.{ℕ, ◌+◌, Bool, ◌&&◌, List, [], ◌∷◌, length, Ok, Err, nat_le, nat_lt, slice_index, slice_index_or}
 use Rattle.model.specs.Basics.{pick}
 use Rattle.model.specs.Desk.{Event, make, close, move, raise, show, fill, put, copy, offer, point, press, key, paste}
 use Rattle.model.specs.Desk.{Word, no, done, made, at, pressed, typed, pasted}

@@ -3,7 +3,6 @@ use Rattle.std.proofs.Common.{◌≡◌, ℕ, zero, suc, ◌+◌, ◌*◌, ◌<�
 use Rattle.std.proofs.lemmas.Bool.{ne_eqb, cases_Bool, cases_lt, cases_eq, true≢false, false≢true, lt-leb, le-leb}
 use Rattle.std.proofs.lemmas.List.{length-append}
 use Rattle.region.specs.Edges.{inside, Between, Row}
-use Rattle.region.specs.Boxes.{edges}
 use Rattle.region.specs.Bands.{Change, row_at, Bands}
 use Rattle.region.specs.Flat.{boxes, flat}
 use Rattle.region.specs.Lines.{among, before, Only}

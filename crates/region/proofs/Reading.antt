@@ -1,12 +1,12 @@
 -- A reader that goes down a region.
-use Rattle.std.proofs.Common.{◌≡◌, ℕ, suc, ◌+◌, ◌-◌, ◌<◌, ◌≤◌, true, false, cond, ◌≢◌, List, [], ◌∷◌, ◌++◌, length, get_or, take, drop, sym, refl, ap, ◌∙◌, subst, ap₂, subst₂, arith}
+use Rattle.std.proofs.Common.{◌≡◌, ℕ, suc, ◌+◌, ◌-◌, ◌<◌, ◌≤◌, false, cond, ◌≢◌, List, [], ◌∷◌, ◌++◌, length, get_or, take, drop, sym, refl, ap, ◌∙◌, subst, ap₂, subst₂, arith}
 use Rattle.std.proofs.lemmas.Bool.{eq-eqb, ne_eqb, true≢false}
 use Rattle.std.proofs.lemmas.List.{drop_more, drop_all, drop-drop, length-drop, take_at, drop_at, length-append}
 use Rattle.geometry.specs.declared.Rect.{Rect}
 use Rattle.region.specs.Edges.{inside, odd, Row}
 use Rattle.geometry.specs.Boxes.{blank}
 use Rattle.region.specs.Boxes.{Rows, across, none}
-use Rattle.region.specs.Bands.{Change, row_at, last_row, Bands, has}
+use Rattle.region.specs.Bands.{Change, row_at, last_row, Bands}
 use Rattle.region.specs.Flat.{covers, boxes, flat}
 use Rattle.region.specs.Reader.{Rest, Slab, leading}
 use Rattle.region.proofs.Pairs.{across-inside}

@@ -1,12 +1,12 @@
 -- The lines of some boxes.
-use Rattle.std.proofs.Common.{◌≡◌, ℕ, zero, suc, ◌+◌, ◌*◌, ◌<◌, ◌≤◌, Bool, true, false, not, ◌&&◌, ◌||◌, eqb, ltb, leb, ◌⊎◌, List, [], ◌∷◌, length, get_or, take, sym, refl, ap, ◌∙◌, ap₂, inl, inr, mul_assoc, mul_left_comm, arith}
+use Rattle.std.proofs.Common.{◌≡◌, ℕ, zero, suc, ◌+◌, ◌*◌, ◌<◌, ◌≤◌, Bool, true, false, ◌&&◌, ◌||◌, eqb, ltb, leb, ◌⊎◌, List, [], ◌∷◌, length, get_or, take, sym, refl, ap, ◌∙◌, ap₂, inl, inr, mul_assoc, mul_left_comm, arith}
 use Rattle.std.proofs.lemmas.Bool.{eq-eqb, cases_lt, lt-leb, le-leb, lt-ltb, le-ltb, true≢false, or_right}
 use Rattle.geometry.specs.declared.Rect.{Rect}
 use Rattle.geometry.specs.Boxes.{blank}
 use Rattle.region.specs.declared.Op.{Op}
 use Rattle.region.specs.Boxes.{edges, act}
 use Rattle.region.specs.Flat.{covers}
-use Rattle.region.specs.Lines.{among, before, Only, Lines, room_for}
+use Rattle.region.specs.Lines.{among, Only, Lines, room_for}
 use Rattle.region.proofs.Pairs.{act-none}
 
 -- the rows where boxes begin and end

@@ -5,7 +5,7 @@ use Rattle.region.specs.declared.Op.{Op}
 use Rattle.region.specs.Edges.{Between, Row, inside}
 use Rattle.region.specs.Boxes.{edges, across, none, act}
 use Rattle.region.specs.Bands.{Change, Bands, row_at, last_row}
-use Rattle.region.specs.Flat.{covers, boxes, flat, Canonical}
+use Rattle.region.specs.Flat.{covers, flat, Canonical}
 
 -- the reader stands at the row y, and the boxes above that row are those before p
 pub record Rest (a : List Rect) (p y : ℕ) : Type 0 where

@@ -48,9 +48,5 @@ fn run(rt: &HostRuntime) -> anyhow::Result<()> {
 }
 
 fn main(rt: HostRuntime) -> anyhow::Result<()> {
-    let outcome = run(&rt);
-    if let Err(e) = &outcome {
-        eprintln!(rt; "{e}")?;
-    }
-    outcome
+    run(&rt)
 }

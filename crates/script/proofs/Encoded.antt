@@ -1,8 +1,8 @@
 -- The bytes that the words of an event give are those of the event that they say.
-use Rattle.std.proofs.Common.{◌≡◌, ℕ, zero, suc, ◌-◌, ◌%◌, ◌^◌, ◌<◌, ◌≤◌, Bool, true, false, ◌&&◌, eqb, ltb, leb, List, [], ◌∷◌, ◌++◌, map, length, take, drop, ℤ, IfSome, Some, None, Option, sym, refl, ap, ◌∙◌, subst, append-nil, arith}
+use Rattle.std.proofs.Common.{◌≡◌, ℕ, zero, suc, ◌-◌, ◌%◌, ◌^◌, ◌<◌, ◌≤◌, Bool, true, false, ◌&&◌, eqb, ltb, leb, List, [], ◌∷◌, ◌++◌, map, length, take, drop, IfSome, Some, None, Option, refl, ap, ◌∙◌, append-nil, arith}
 use Rattle.std.specs.Option.{option_map}
 use Rattle.std.specs.Str.Parse.{digits_value}
-use Rattle.std.proofs.lemmas.Bool.{ltb-true, leb-true, leb-false, le-leb, lt-leb, and_parts}
+use Rattle.std.proofs.lemmas.Bool.{leb-true, leb-false, and_parts}
 use Rattle.model.specs.Basics.{pick}
 use Rattle.model.specs.Desk as desk
 use Rattle.protocol.specs.Fields as fields
@@ -15,7 +15,7 @@ use Rattle.script.specs.declared.kinds.Kind.TheVariants as kinds
 use Rattle.script.specs.Numerals as numerals
 use Rattle.script.specs.Numerals.{begins_hex, in_base, plain_number, signed_number}
 use Rattle.script.specs.Putting.{near_bytes}
-use Rattle.script.specs.Sentences.{and_then, mark_number, each_number, row_numbers, first_word, first_field, no_more, fields_say, kind_says}
+use Rattle.script.specs.Sentences.{and_then, mark_number, each_number, row_numbers, first_field, no_more, fields_say, kind_says}
 use Rattle.script.specs.Tables.{number_of, fields_of, row_of, word_bytes, before, each_bytes, all_bytes, row_bytes, rest_bytes, event_bytes}
 use Rattle.script.proofs.Going.{before-nil, before-before}
 

@@ -1,6 +1,5 @@
 -- Bytes that are added bit by bit: what is left to say gives all that is said.
-use Rattle.std.proofs.Common.{◌≡◌, ℕ, List, [], ◌∷◌, ◌++◌, Some, None, Ok, Err, Option, Result, sym, refl, ap, ◌∙◌, append_assoc, append-nil, MatchResult}
-use Rattle.std.specs.Option.{option_map}
+use Rattle.std.proofs.Common.{◌≡◌, ℕ, List, [], ◌++◌, Some, None, Ok, Err, Option, Result, sym, refl, ap, ◌∙◌, append_assoc, append-nil, MatchResult}
 use Rattle.script.specs.declared.problem.Problem.{Problem}
 use Rattle.script.specs.declared.problem.Problem.TheVariants.{Unknown, Fields, Number, Long, Memory}
 use Rattle.script.specs.Putting.{Blames, Puts}

@@ -1,5 +1,5 @@
 -- What is left of the words, one fewer.
-use Rattle.std.proofs.Common.{◌≡◌, ℕ, ◌+◌, ◌-◌, ◌<◌, ◌≤◌, true, false, ltb, leb, List, [], ◌∷◌, length, get_or, take, drop, Some, None, Option, refl, ap, add-one, arith, drop-cons, Bor}
+use Rattle.std.proofs.Common.{◌≡◌, ℕ, ◌+◌, ◌-◌, ◌<◌, ◌≤◌, true, false, ltb, leb, List, [], ◌∷◌, length, get_or, take, drop, Some, None, Option, add-one, arith, drop-cons, Bor}
 use Rattle.std.proofs.lemmas.List.{drop_all, length-drop, length-map, nil_from_length, take_all, take-map, drop-map}
 use Rattle.std.proofs.lemmas.Bool.{lt-ltb, le-ltb, le-leb, lt-leb}
 use Rattle.protocol.specs.Fields.{digits}

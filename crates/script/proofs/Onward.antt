@@ -2,7 +2,7 @@
 use Rattle.std.proofs.Common.{◌≡◌, ℕ, ◌+◌, ◌*◌, ◌<◌, ◌≤◌, Bool, true, false, ◌&&◌, eqb, ltb, leb, List, [], ◌∷◌, length, get_or, drop, IfOk, Ok, Err, Result, sym, subst, arith}
 use Rattle.model.specs.Basics.{pick}
 use Rattle.model.specs.Desk as desk
-use Rattle.protocol.specs.Fields.{Field, program, byte, plain, near, far, mark, only, row, Says, From, Found, then, there, field, decode, number, numbers, signed}
+use Rattle.protocol.specs.Fields.{Field, program, byte, plain, near, far, mark, only, row, From, Found, then, there, field, decode, number, numbers, signed}
 use Rattle.protocol.specs.declared.types.Event.{Event}
 use Rattle.protocol.specs.declared.types.Fault.{Fault}
 use Rattle.protocol.specs.Meaning.{said}

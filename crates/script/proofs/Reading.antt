@@ -1,5 +1,5 @@
 -- Lines and words, one after another.
-use Rattle.std.proofs.Common.{◌≡◌, ℕ, zero, suc, ◌+◌, ◌<◌, ◌≤◌, Bool, true, false, eqb, List, [], ◌∷◌, ◌++◌, map, length, get_or, take, drop, Some, None, Ok, Err, Option, Result, sym, refl, ap, ◌∙◌, subst, ⊎_elim, append_assoc, append-nil, arith, length-append, Bor}
+use Rattle.std.proofs.Common.{◌≡◌, ℕ, suc, ◌+◌, ◌<◌, ◌≤◌, false, eqb, List, [], ◌∷◌, ◌++◌, length, get_or, drop, Some, None, Ok, Err, Option, Result, sym, refl, ap, ◌∙◌, subst, ⊎_elim, append_assoc, append-nil, arith, length-append, Bor}
 use lib.Utf8 as utf8
 use Rattle.std.specs.Str.Lines.{IsFirstLine}
 use Rattle.std.specs.Option.{option_map}
@@ -7,13 +7,12 @@ use Rattle.std.specs.Char.{is_whitespace, is_not_whitespace, is_newline}
 use Rattle.std.specs.Str.{NoCharPasses, EmptyOrStartsWithPassing}
 use Rattle.std.proofs.lemmas.List.{map-append, length_push}
 use Rattle.std.proofs.lemmas.Bool.{ne_eqb, eqb-true, cases_lt}
-use Rattle.model.specs.Basics.{pick}
 use Rattle.model.specs.Desk.{Event}
 use Rattle.protocol.specs.Formats.{encode}
 use Rattle.script.specs.declared.kinds.Kind.{Kind}
 use Rattle.script.specs.declared.problem.Problem.{Problem}
 use Rattle.script.specs.Kinds.{kind_of}
-use Rattle.script.specs.Putting.{Blames, Puts}
+use Rattle.script.specs.Putting.{Puts}
 use Rattle.script.specs.Sentences.{and_then, texts, kind_says}
 use Rattle.script.specs.Tables.{number_of}
 use Rattle.script.specs.Texts.{code_of, FirstWord, Words, sentence, LineSays, encode_all, PutsLine, TextSays, WrongAfter, WrongAt, all_events}

@@ -1,5 +1,5 @@
 -- What a row of bytes says: its events up to the first fault.
-use Rattle.std.specs.Prelude.{◌≡◌, ℕ, ◌<◌, ◌≤◌, Bool, true, false, List, [], ◌∷◌, length, replicate, Some, None, Ok, Err, Option, slice_index_or}
+use Rattle.std.specs.Prelude.{◌≡◌, ℕ, ◌<◌, ◌≤◌, true, false, List, [], ◌∷◌, length, replicate, Some, None, Ok, Err, Option, slice_index_or}
 use Rattle.model.specs.Desk.{Event}
 use Rattle.protocol.specs.Fields.{Found}
 use Rattle.protocol.specs.Formats.{read_event}

@@ -1,11 +1,11 @@
 -- What a line of words says: the fields of an event's format in their order, a word each, and of a row all the words that are left.
-use Rattle.std.specs.Prelude.{ℕ, ◌-◌, ◌^◌, Bool, true, false, List, [], ◌∷◌, map, length, Some, None, Option, nat_eq, nat_lt}
+use Rattle.std.specs.Prelude.{ℕ, ◌-◌, ◌^◌, Bool, List, [], ◌∷◌, map, length, Some, None, Option, nat_eq, nat_lt}
 use Rattle.std.specs.Borrow.{Bor}
 use Rattle.std.specs.Option.{option_map}
 use Rattle.model.specs.Basics.{pick}
 use Rattle.model.specs.Desk as desk
 use Rattle.protocol.specs.Fields.{Field, program, byte, plain, near, far, mark, only, row, Says, From}
-use Rattle.protocol.specs.Formats.{Format, event_format}
+use Rattle.protocol.specs.Formats.{event_format}
 use Rattle.script.specs.Numerals.{plain_number, signed_number}
 
 -- what the second makes of what the first found

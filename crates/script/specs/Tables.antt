@@ -1,5 +1,5 @@
 -- The fields of each kind of event as words, and the bytes that words say.
-use Rattle.std.specs.Prelude.{ℕ, List, [], ◌∷◌, ◌++◌, map, length, take, drop, Some, None, Option, nat_le, nat_lt}
+use Rattle.std.specs.Prelude.{ℕ, List, [], ◌∷◌, ◌++◌, length, take, drop, Some, None, Option, nat_le, nat_lt}
 use Rattle.std.specs.Option.{option_map}
 use Rattle.model.specs.Basics.{pick}
 use Rattle.protocol.specs.Fields.{digits}

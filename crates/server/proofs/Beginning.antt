@@ -1,8 +1,7 @@
 -- A start, put together.
-use Rattle.std.proofs.Common.{◌≡◌, ℕ, ◌≤◌, Bool, true, false, List, length, None, sym, refl, ap, ◌∙◌, subst, arith}
+use Rattle.std.proofs.Common.{◌≡◌, ℕ, ◌≤◌, Bool, true, false, List, length, None, sym, refl, ◌∙◌, subst, arith}
 use Rattle.model.specs.Desk.{Sizes, empty}
 use Rattle.layout.specs.Budget.{start_refusal, work_room}
-use Rattle.layout.specs.Head.{sizes_in, desk_in}
 use Rattle.layout.specs.State.{desk_of, Good}
 use Rattle.layout.specs.Stored.{Storing}
 use Rattle.layout.specs.declared.state.State.{State}

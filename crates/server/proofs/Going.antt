@@ -1,9 +1,8 @@
 -- The loop over the events of a call: what is left of it gives what all of it gives.
-use Rattle.std.proofs.Common.{◌≡◌, ℕ, zero, suc, ◌+◌, ◌-◌, ◌*◌, ◌<◌, ◌≤◌, Bool, true, false, ltb, List, [], ◌∷◌, ◌++◌, length, drop, Some, None, Ok, Err, Option, sym, refl, ap, ◌∙◌, subst, arith}
+use Rattle.std.proofs.Common.{◌≡◌, ℕ, zero, suc, ◌+◌, ◌-◌, ◌<◌, ◌≤◌, List, [], ◌∷◌, ◌++◌, length, drop, Some, None, Ok, Err, Option, sym, refl, ap, ◌∙◌, subst, arith}
 use Rattle.std.proofs.lemmas.Bool.{lt-ltb, le-ltb}
-use Rattle.model.specs.Basics.{pick}
 use Rattle.model.specs.Desk.{Desk, Sizes, Event, Word, after, run}
-use Rattle.model.specs.System.{System, happens, sends, tells}
+use Rattle.model.specs.System.{System, happens}
 use Rattle.protocol.specs.Added.{Added}
 use Rattle.protocol.specs.Fields.{Found}
 use Rattle.protocol.specs.Formats.{read_event}
@@ -14,7 +13,7 @@ use Rattle.layout.specs.declared.budget.Used.{Used}
 use Rattle.damage.specs.Encode.{encode, Sent}
 use Rattle.damage.specs.Cover.{cover, sends_at}
 use Rattle.server.specs.Told.{told_bytes, AllCarried}
-use Rattle.server.specs.Course.{Reading, stop, before, next, unless, one_more, reading, read_call, unused, holding, sent_by, told_by}
+use Rattle.server.specs.Course.{Reading, stop, before, next, one_more, reading, read_call, unused, holding, sent_by, told_by}
 use Rattle.server.proofs.Boxes.{encode-append}
 use Rattle.server.proofs.Owning.{told_bytes-append}
 use Rattle.server.specs.Promise.{Ran}

@@ -1,17 +1,15 @@
 -- Whole histories of calls: what each promises, put together.
-use Rattle.std.proofs.Common.{◌≡◌, ℕ, zero, suc, ◌+◌, ◌-◌, ◌*◌, ◌<◌, ◌≤◌, Bool, true, false, ◌&&◌, eqb, ltb, leb, ◌⊎◌, List, [], ◌∷◌, ◌++◌, map, length, get_or, take, is_some, Some, None, Ok, Err, Option, sym, refl, ap, ◌∙◌, subst, inl, inr, arith}
+use Rattle.std.proofs.Common.{◌≡◌, ℕ, zero, suc, ◌+◌, ◌-◌, ◌<◌, ◌≤◌, Bool, true, false, ◌&&◌, eqb, ltb, leb, List, [], ◌∷◌, ◌++◌, map, length, Some, None, Ok, Err, Option, sym, refl, ap, ◌∙◌, subst, arith}
 use Rattle.std.proofs.lemmas.Bool.{le-leb, lt-ltb, ltb-true, and_parts}
-use Rattle.std.proofs.lemmas.List.{append_assoc, append-nil}
+use Rattle.std.proofs.lemmas.List.{append_assoc}
 use Rattle.model.specs.Basics.{pick, bit, in_box}
-use Rattle.model.specs.Desk as desk
-use Rattle.model.specs.Desk.{Desk, Sizes, Event, Word, after, run, empty, dot, told, words_to, window}
-use Rattle.model.specs.Promise.{Box, Fits, FitsSizes, AllFit, screen, with_boxes, SameScreen, Unseen}
+use Rattle.model.specs.Desk.{Desk, Sizes, Event, Word, after, run, empty, dot, told, words_to}
+use Rattle.model.specs.Promise.{Box, FitsSizes, AllFit, screen, with_boxes, SameScreen}
 use Rattle.model.specs.System.{System, Rect, Exact, Solid, Formed, in_rect, coloured, covered, damage, on, start, happens, sends, tells}
 use Rattle.model.specs.Kept.{EveryCover}
 use Rattle.model.proofs.Picks.{by-pick}
 use Rattle.model.proofs.Covers.{every-cover}
 use Rattle.model.proofs.Grid.{grid-exact}
-use Rattle.model.proofs.Unseen.{unseen}
 use Rattle.model.proofs.Boxes.{coloured-formed, covered-cons}
 use Rattle.protocol.specs.Fields.{Bytes}
 use Rattle.protocol.specs.Formats.{read_event}
@@ -25,9 +23,8 @@ use Rattle.damage.specs.Cover.{cover, sends_at}
 use Rattle.damage.specs.Encode.{encode}
 use Rattle.damage.specs.Screen.{boxes_in, OnScreen}
 use Rattle.damage.proofs.Decoding.{coded, formed-whole, puts-join}
-use Rattle.damage.proofs.Showing.{same-below}
-use Rattle.server.specs.Course.{Reading, reading, read_call, next, unless, stop, one_more, holding, sent_by, told_by}
-use Rattle.server.proofs.Going.{sent-any, told-any, told-cons}
+use Rattle.server.specs.Course.{Reading, reading, next, unless, one_more, holding, sent_by, told_by}
+use Rattle.server.proofs.Going.{sent-any, told-cons}
 
 -- Events that are read fit.
 

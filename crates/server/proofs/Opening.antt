@@ -1,9 +1,8 @@
 -- A call on lent memory, put together: what was loaded, carried out and stored again.
-use Rattle.std.proofs.Common.{◌≡◌, ℕ, ◌≤◌, Bool, true, false, List, length, Some, None, Option, sym, refl, ap, ◌∙◌, subst, arith}
+use Rattle.std.proofs.Common.{◌≡◌, ℕ, ◌≤◌, Bool, true, false, List, length, Some, None, sym, ◌∙◌, subst, arith}
 use Rattle.model.specs.Desk as desk
 use Rattle.model.specs.Promise.{FitsSizes}
 use Rattle.layout.specs.Budget.{work_room}
-use Rattle.layout.specs.Head.{sizes_in, desk_in, sound_in}
 use Rattle.layout.specs.Loads.{LoadedAs}
 use Rattle.layout.specs.Ranges.{Ranges}
 use Rattle.layout.specs.Sizes.{sizes_of, size_refusal}

@@ -1,12 +1,12 @@
 -- The rows of one program over whole histories.
-use Rattle.std.proofs.Common.{◌≡◌, ℕ, ◌<◌, Bool, true, List, [], ◌∷◌, ◌++◌, map, Ok, Err, sym, refl, ap, ◌∙◌, subst}
+use Rattle.std.proofs.Common.{◌≡◌, ℕ, List, [], ◌∷◌, ◌++◌, map, sym, refl, ap, ◌∙◌}
 use Rattle.std.proofs.lemmas.List.{map-append}
-use Rattle.model.specs.Desk.{Sizes, Word, words_to, empty, told}
+use Rattle.model.specs.Desk.{Word}
 use Rattle.model.specs.Promise.{Unseen}
 use Rattle.model.proofs.Unseen.{unseen}
 use Rattle.server.specs.Told.{told_bytes}
-use Rattle.server.specs.Mailbox.{Took, own, words_in}
-use Rattle.server.specs.History.{Call, History, ShortRows, AllServed, words_of, read_by, heard_by, all_events}
+use Rattle.server.specs.Mailbox.{Took, words_in}
+use Rattle.server.specs.History.{Call, AllServed, words_of, read_by, heard_by, all_events}
 use Rattle.server.specs.Rows.{Taking, handed, Takes, all_handed, row_of, RowsTold, RowsUnseen, RowAlone}
 use Rattle.server.proofs.Owning.{told_bytes-append, own-told}
 use Rattle.server.proofs.Serving.{all-served}

@@ -1,9 +1,8 @@
 -- A history serves the desk: call by call.
-use Rattle.std.proofs.Common.{◌≡◌, ℕ, ◌<◌, ◌≤◌, Bool, true, false, List, [], ◌∷◌, ◌++◌, map, length, get_or, take, is_some, Some, None, Ok, Err, Option, Result, sym, refl, ap, ◌∙◌, subst, arith}
-use Rattle.model.specs.Basics.{pick}
+use Rattle.std.proofs.Common.{◌≡◌, ℕ, ◌<◌, true, List, [], ◌∷◌, ◌++◌, length, get_or, is_some, Some, None, Ok, sym, refl, ap, ◌∙◌, subst, arith}
 use Rattle.model.specs.Desk as desk
 use Rattle.model.specs.Desk.{Desk, Sizes, Event, Word, after, run, empty, dot, told, words_to, window, nothing}
-use Rattle.model.specs.Promise.{Box, FitsSizes, AllFit, with_boxes, Unseen}
+use Rattle.model.specs.Promise.{FitsSizes, AllFit, with_boxes, Unseen}
 use Rattle.model.proofs.Pictures.{after-dots}
 use Rattle.model.proofs.Unseen.{unseen}
 use Rattle.stack.specs.View.{view}
@@ -12,14 +11,12 @@ use Rattle.layout.specs.Head.{sizes_in, desk_in, sound_in, table_in, order_in}
 use Rattle.layout.proofs.Checked.{starts}
 use Rattle.layout.proofs.Holds.{parts, once_by, view-at}
 use Rattle.damage.specs.Screen.{boxes_in}
-use Rattle.damage.specs.Encode.{encode}
 use Rattle.damage.proofs.Decoding.{puts-join}
-use Rattle.server.specs.Told.{told_bytes, AllCarried}
 use Rattle.server.specs.Course.{read_call, holding, sent_by, told_by}
-use Rattle.server.specs.Promise.{Ran, Called, Promise, Promised, lent_of}
+use Rattle.server.specs.Promise.{Ran, Called, Promise, lent_of}
 use Rattle.server.specs.Mailbox.{words_in}
 use Rattle.server.specs.MailboxLaws.{WordsReadBack}
-use Rattle.server.specs.History.{Call, Kept, Calls, pictures_after, work_after, events_of, all_events, sent_in, words_of, fed, screen_after, read_by, heard_by, History, ShortRows, AllBoxes, Served, AllServed, AllUnseen, OrderLent, PicturesLent}
+use Rattle.server.specs.History.{Call, Kept, Calls, pictures_after, work_after, events_of, all_events, sent_in, words_of, fed, screen_after, read_by, heard_by, History, ShortRows, AllBoxes, AllServed, AllUnseen, OrderLent, PicturesLent}
 use Rattle.server.proofs.Histories.{reading-fits, all-fit-append, run-append, sent-append, words-told, told-append, sent-read, screen-right}
 use Rattle.server.proofs.MailboxLaws.{words-read-back}
 

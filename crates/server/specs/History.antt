@@ -1,5 +1,5 @@
 -- WHOLE HISTORIES: a start, and then calls, each on the memory that the one before left. What holds of them is said here in the subject's own words.
-use Rattle.std.specs.Prelude.{◌≡◌, ℕ, suc, ◌<◌, Bool, true, List, [], ◌∷◌, ◌++◌, length, take, is_some, Some, None, Ok, Err, Option, Result, ◌≢◌, slice_index_or}
+use Rattle.std.specs.Prelude.{◌≡◌, ℕ, ◌<◌, Bool, true, List, [], ◌∷◌, ◌++◌, length, take, is_some, Some, None, Ok, Err, Option, Result, ◌≢◌, slice_index_or}
 use Rattle.model.specs.Basics.{pick}
 use Rattle.model.specs.Desk.{Sizes, Event, Word, run, empty, dot, told, words_to}
 use Rattle.model.specs.Promise.{Box, with_boxes, times, Alike, is_paint, painter}
@@ -8,10 +8,9 @@ use Rattle.stack.specs.View.{dots_of}
 use Rattle.stack.specs.declared.state.Window.{Window}
 use Rattle.layout.specs.Head.{sizes_in, desk_in, sound_in, table_in, order_in}
 use Rattle.damage.specs.Screen.{boxes_in}
-use Rattle.server.specs.Told.{told_bytes}
 use Rattle.server.specs.Course.{read_call}
 use Rattle.server.specs.Promise.{Promised, Started, lent_of}
-use Rattle.server.specs.Mailbox.{own, words_in}
+use Rattle.server.specs.Mailbox.{words_in}
 use Rattle.server.specs.declared.outcome.Outcome.{Outcome}
 
 -- one call: its bytes, what the four lent slices held before it and after it, and what it came to

@@ -1,5 +1,5 @@
 -- What is told, in rows of bytes: the theorems about the words of all and of one program.
-use Rattle.std.specs.Prelude.{◌≡◌, ℕ, ◌<◌, ◌≤◌, List, [], ◌∷◌, ◌++◌, map, length, take, Ok, Err}
+use Rattle.std.specs.Prelude.{◌≡◌, ℕ, ◌<◌, ◌≤◌, List, ◌++◌, map, length, take, Ok, Err}
 use Rattle.model.specs.Desk.{Word, words_to}
 use Rattle.protocol.specs.Fields.{Bytes}
 use Rattle.protocol.specs.Laws.{Told, spell_told, FirstFault}

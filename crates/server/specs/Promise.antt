@@ -1,5 +1,5 @@
 -- THE PROMISE of the two calls, over all that is lent.
-use Rattle.std.specs.Prelude.{◌≡◌, ℕ, Bool, true, false, List, length, Some, None, Ok, Err, Option, Result}
+use Rattle.std.specs.Prelude.{◌≡◌, ℕ, Bool, true, false, List, length, Some, None, Ok, Err, Result}
 use Rattle.model.specs.Desk.{Desk, Sizes, run, empty}
 use Rattle.protocol.specs.Added.{Added}
 use Rattle.layout.specs.Refusals.{numbered, numbered_one}

@@ -1,10 +1,9 @@
 -- The rows of one program over whole histories: the bytes that it takes after each call.
-use Rattle.std.specs.Prelude.{◌≡◌, ℕ, Bool, true, List, [], ◌∷◌, ◌++◌, map, take, Ok}
+use Rattle.std.specs.Prelude.{◌≡◌, ℕ, Bool, true, List, [], ◌∷◌, ◌++◌, map, take}
 use Rattle.model.specs.Desk.{Sizes, Word, empty, told}
 use Rattle.model.specs.Promise.{Alike}
-use Rattle.protocol.specs.Fields.{Bytes}
 use Rattle.server.specs.Told.{told_bytes}
-use Rattle.server.specs.Mailbox.{Took, words_in, heard}
+use Rattle.server.specs.Mailbox.{Took, words_in}
 use Rattle.server.specs.History.{Call, History, ShortRows, all_events, words_of, read_by}
 
 -- a program's row before and after it took its words, and how many bytes it was handed

@@ -1,8 +1,6 @@
 -- Windows whose pictures are packed: what is seen of all of them as one is made, closed or painted, and the pictures' memory changes with it.
-use Rattle.std.proofs.Common.{◌≡◌, ℕ, zero, suc, ◌+◌, ◌-◌, ◌*◌, ◌<◌, ◌≤◌, Bool, true, false, ◌⊎◌, List, [], ◌∷◌, map, length, get_or, set, is_some, Some, None, Option, sym, refl, ap, ◌∙◌, subst, inl, inr, add-zero, mul_comm, arith}
-use mathlib.Core.Path.{fun_ext}
+use Rattle.std.proofs.Common.{◌≡◌, ℕ, zero, suc, ◌+◌, ◌*◌, ◌<◌, ◌≤◌, true, ◌⊎◌, List, [], ◌∷◌, map, length, get_or, set, is_some, Some, None, Option, sym, refl, ap, ◌∙◌, subst, inl, inr, add-zero, mul_comm, arith}
 use Rattle.std.proofs.lemmas.Bool.{both_ways}
-use Rattle.model.specs.Desk as desk
 use Rattle.model.specs.Desk.{nothing, area, painted}
 use Rattle.model.proofs.Boxes.{place-below}
 use Rattle.stack.specs.declared.state.Window.{Window}

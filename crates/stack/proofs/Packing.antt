@@ -1,5 +1,5 @@
 -- Pictures that are packed one window at a time: the first n windows are.
-use Rattle.std.proofs.Common.{◌≡◌, ℕ, zero, suc, ◌+◌, List, [], ◌∷◌, get_or, take, set, None, Option, sym, refl, ap, ◌∙◌, add-zero}
+use Rattle.std.proofs.Common.{◌≡◌, ℕ, zero, suc, ◌+◌, List, [], ◌∷◌, get_or, take, set, None, Option, sym, refl, ap, add-zero}
 use Rattle.stack.specs.declared.state.Window.{Window}
 use Rattle.stack.specs.View.{begun, size_of, packed}
 

@@ -1,5 +1,5 @@
 -- Pictures that lie one after another, in the order of the windows' numbers and without a gap.
-use Rattle.std.specs.Prelude.{◌≡◌, ℕ, ◌+◌, true, false, List, [], ◌∷◌, ℤ, Some, None, Option}
+use Rattle.std.specs.Prelude.{◌≡◌, ℕ, ◌+◌, true, List, [], ◌∷◌, Some, None, Option}
 use Rattle.model.specs.Desk as desk
 use Rattle.stack.specs.declared.state.Window.{Window}
 use Rattle.stack.specs.View.{size_of}

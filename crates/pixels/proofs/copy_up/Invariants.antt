@@ -1,4 +1,3 @@
-use Rattle.std.proofs.Common.{◌-◌}
 use Rattle.pixels.proofs.Rows.{Rows}
 use Rattle.pixels.proofs.Copies.{source}
 use Rattle.pixels.proofs.copy_up.Given as goal

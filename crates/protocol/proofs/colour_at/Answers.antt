@@ -1,5 +1,5 @@
-use Rattle.std.proofs.Common.{◌≡◌, ◌+◌, ◌*◌, drop, sym, ap, ◌∙◌, arith, rules}
-use Rattle.std.proofs.lemmas.Bool.{and_from, and_right, and_left, lt-ltb, le-ltb}
+use Rattle.std.proofs.Common.{◌*◌, drop, sym, ap, ◌∙◌, arith, rules}
+use Rattle.std.proofs.lemmas.Bool.{and_from, lt-ltb}
 use Rattle.std.proofs.lemmas.List.{drop-drop}
 use Rattle.protocol.specs.Fields.{number}
 use Rattle.protocol.proofs.Rows.{getD-numbers}

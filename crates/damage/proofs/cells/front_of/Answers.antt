@@ -1,4 +1,4 @@
-use Rattle.std.proofs.Common.{◌≡◌, sym, refl, ap, ◌∙◌}
+use Rattle.std.proofs.Common.{refl}
 use Rattle.std.proofs.lemmas.Int.{to_z_pos}
 use Rattle.layout.specs.State.{desk_of}
 use Rattle.damage.proofs.cells.front_of.Goals as goal

@@ -1,7 +1,6 @@
-use Rattle.std.proofs.Common.{◌≡◌, ℕ, ◌+◌, ◌-◌, ◌*◌, ◌≤◌, true, false, List, [], ◌∷◌, ◌++◌, length, sym, refl, ap, ◌∙◌, subst, arith}
+use Rattle.std.proofs.Common.{List, [], length, sym, ap, ◌∙◌, arith}
 use Rattle.std.proofs.lemmas.Bool.{and_right}
 use Rattle.model.specs.System as system
-use Rattle.damage.specs.Encode.{Sent}
 use Rattle.damage.specs.Cells.{words_of, damaged}
 use Rattle.damage.proofs.Left.{sent-none, sent_by}
 use Rattle.damage.proofs.Cutting.{cell-one, cell-words-none, rect-empty, rect-full, box-length}

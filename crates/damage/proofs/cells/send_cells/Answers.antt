@@ -1,9 +1,9 @@
-use Rattle.std.proofs.Common.{◌≡◌, ℕ, ◌+◌, ◌-◌, ◌*◌, ◌<◌, ◌≤◌, List, [], ◌∷◌, ◌++◌, length, drop, sym, refl, ap, ◌∙◌, subst, arith}
+use Rattle.std.proofs.Common.{◌+◌, ◌<◌, ◌≤◌, length, drop, arith}
 use Rattle.model.specs.System.{front_at}
 use Rattle.layout.specs.State.{desk_of}
 use Rattle.damage.specs.Lines.{lines_of}
 use Rattle.damage.specs.Cells.{words_of, damaged, row_of, cells_of}
-use Rattle.damage.proofs.Left.{Left, left_by, left-more, left_end, left-room}
+use Rattle.damage.proofs.Left.{left_by, left-more, left_end, left-room}
 use Rattle.damage.proofs.Cutting.{cells-more, cells-end, even-more, low-more}
 use Rattle.damage.proofs.cells.send_cells.Goals as goal
 

@@ -1,4 +1,4 @@
-use Rattle.std.proofs.Common.{ℕ, ◌≤◌, drop}
+use Rattle.std.proofs.Common.{ℕ, drop}
 use Rattle.model.specs.System.{front_at}
 use Rattle.layout.specs.State.{desk_of}
 use Rattle.damage.specs.Lines.{lines_of}

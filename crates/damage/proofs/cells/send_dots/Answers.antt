@@ -1,6 +1,6 @@
-use Rattle.std.proofs.Common.{◌≡◌, ℕ, ◌+◌, ◌-◌, ◌*◌, ◌≤◌, List, length, sym, refl, ap, ◌∙◌, subst, arith}
+use Rattle.std.proofs.Common.{◌+◌, ◌-◌, arith}
 use Rattle.damage.specs.Cells.{seen, dot_row, dot_rows}
-use Rattle.damage.proofs.Left.{Left, left-start, left_by, left-more, left_end, left-room}
+use Rattle.damage.proofs.Left.{left_by, left-more, left_end, left-room}
 use Rattle.damage.proofs.Dots.{rows-cons, rows-nil, rows-length, row-length}
 use Rattle.damage.proofs.cells.send_dots.Goals as goal
 

@@ -1,4 +1,4 @@
-use Rattle.std.proofs.Common.{◌≡◌, refl, subst}
+use Rattle.std.proofs.Common.{refl, subst}
 use Rattle.model.specs.Desk as desk
 use Rattle.layout.specs.State.{desk_of}
 use Rattle.damage.specs.Hurts.{Placing}

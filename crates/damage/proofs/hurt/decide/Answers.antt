@@ -1,12 +1,11 @@
-use Rattle.std.proofs.Common.{◌≡◌, ℕ, Bool, true, false, ◌&&◌, ℤ, sym, refl, ap, ◌∙◌, subst, w16, SFits, rules}
+use Rattle.std.proofs.Common.{◌≡◌, ℕ, true, false, ◌&&◌, sym, refl, ap, ◌∙◌, subst, w16, SFits, rules}
 use Rattle.std.proofs.lemmas.Int.{to_z-of_z}
 use Rattle.model.specs.Desk as desk
 use Rattle.model.specs.Desk.{window}
 use Rattle.model.specs.Promise.{subject}
 use Rattle.model.specs.System.{taken, damage, same_place}
-use Rattle.protocol.specs.Meaning.{meaning, part}
+use Rattle.protocol.specs.Meaning.{meaning}
 use Rattle.protocol.specs.declared.types.Event.{Event}
-use Rattle.protocol.specs.declared.types.Event.TheVariants.{Move}
 use Rattle.stack.specs.View.{view}
 use Rattle.layout.specs.Sizes.{sizes_of}
 use Rattle.layout.specs.State.{desk_of}

@@ -1,4 +1,4 @@
-use Rattle.std.proofs.Common.{◌≡◌, sym, refl, ap, ◌∙◌, arith, rules}
+use Rattle.std.proofs.Common.{refl, arith}
 use Rattle.std.proofs.lemmas.Int.{to_z_pos}
 use Rattle.layout.specs.State.{desk_of}
 use Rattle.damage.proofs.hurt.front.Goals as goal

@@ -1,4 +1,4 @@
-use Rattle.std.proofs.Common.{◌≡◌, ◌+◌, ℤ, pos, ◌+ℤ◌, sym, refl, ap, ◌∙◌, w16, w32, SFits, rules}
+use Rattle.std.proofs.Common.{◌+◌, ℤ, pos, ◌+ℤ◌, ap, ◌∙◌, w16, w32, SFits, rules}
 use Rattle.std.proofs.lemmas.Int.{to_z-of_z}
 use Rattle.damage.proofs.hurt.placed.Goals as goal
 

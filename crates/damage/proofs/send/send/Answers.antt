@@ -1,4 +1,4 @@
-use Rattle.std.proofs.Common.{◌≡◌, ℕ, ◌+◌, ◌≤◌, List, [], ◌∷◌, ◌++◌, length, sym, refl, ap, ◌∙◌, subst, arith, w32, SFits, rules}
+use Rattle.std.proofs.Common.{◌≡◌, ℕ, List, [], length, refl, ap, arith, w32, SFits, rules}
 use Rattle.std.proofs.lemmas.Int.{to_z-of_z}
 use Rattle.model.specs.Promise.{FitsSizes}
 use Rattle.model.specs.Grid.{sorted, painted_box}
@@ -6,9 +6,8 @@ use Rattle.protocol.specs.Meaning.{meaning}
 use Rattle.stack.specs.View.{view, windows_of}
 use Rattle.layout.specs.Sizes.{sizes_of}
 use Rattle.layout.specs.State.{desk_of}
-use Rattle.layout.specs.Budget.{sent_room}
 use Rattle.damage.specs.declared.types.Axis.TheVariants.{Across, Down}
-use Rattle.damage.specs.Encode.{encode, Sent}
+use Rattle.damage.specs.Encode.{encode}
 use Rattle.damage.specs.Cover.{sends_at}
 use Rattle.damage.specs.Step.{Step}
 use Rattle.damage.specs.Lines.{edges_in, lines_of, grid_edges}

@@ -1,4 +1,4 @@
-use Rattle.std.proofs.Common.{◌≡◌, pos, Some, None, sym, refl, ap, ◌∙◌, w16, SFits, rules}
+use Rattle.std.proofs.Common.{pos, Some, None, w16, SFits, rules}
 use Rattle.std.proofs.lemmas.Int.{to_z_pos, to_z-of_z}
 use Rattle.desktop.proofs.Hearing.{found-listens}
 use Rattle.desktop.proofs.Looking.{dot-none, dot-some, left-of, top_of}

@@ -1,4 +1,4 @@
-use Rattle.std.proofs.Common.{◌≡◌, true, false, ◌&&◌, length, drop, Some, sym, refl, ap, ◌∙◌, subst}
+use Rattle.std.proofs.Common.{length, drop, Some, sym, refl, ap, ◌∙◌, subst}
 use Rattle.std.proofs.lemmas.Bool.{and_left, and_right}
 use Rattle.layout.specs.Sizes.{sizes_of}
 use Rattle.layout.specs.State.{desk_of}

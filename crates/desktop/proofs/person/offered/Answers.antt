@@ -1,4 +1,4 @@
-use Rattle.std.proofs.Common.{◌≡◌, ◌+◌, ◌-◌, ◌≤◌, length, drop, sym, refl, ◌∙◌, arith, rules, leb-true}
+use Rattle.std.proofs.Common.{drop, sym, refl, ◌∙◌, arith, rules, leb-true}
 use Rattle.std.proofs.lemmas.List.{length-drop}
 use Rattle.std.proofs.lemmas.Slice.{overwrites}
 use Rattle.protocol.proofs.Rows.{numbers-one}

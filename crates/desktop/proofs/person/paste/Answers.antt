@@ -1,4 +1,4 @@
-use Rattle.std.proofs.Common.{◌≡◌, ap}
+use Rattle.std.proofs.Common.{ap}
 use Rattle.stack.specs.View.{numbered}
 use Rattle.desktop.proofs.Hearing.{known-listens, paste-quiet, paste-unowned, paste-told}
 use Rattle.desktop.proofs.person.paste.Goals as goal

@@ -1,4 +1,4 @@
-use Rattle.std.proofs.Common.{◌≡◌, Some, None, sym, ap, ◌∙◌, w16, w32, SFits, rules}
+use Rattle.std.proofs.Common.{Some, None, w16, w32, SFits, rules}
 use Rattle.std.proofs.lemmas.Int.{to_z-of_z}
 use Rattle.model.specs.Promise.{FitsSizes}
 use Rattle.desktop.proofs.Hearing.{heard-listens, point-quiet, point-told}

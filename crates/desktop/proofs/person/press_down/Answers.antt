@@ -1,6 +1,5 @@
 use Rattle.std.proofs.Common.{Some, None, w16, SFits, rules}
 use Rattle.std.proofs.lemmas.Int.{to_z-of_z}
-use Rattle.stack.specs.Found.{Found}
 use Rattle.desktop.proofs.Hearing.{found-listens, down-quiet, down-told}
 use Rattle.desktop.proofs.person.press_down.Goals as goal
 

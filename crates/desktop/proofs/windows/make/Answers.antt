@@ -2,7 +2,6 @@ use Rattle.std.proofs.Common.{◌≡◌, false, ltb, [], ◌∷◌, ◌++◌, le
 use Rattle.std.proofs.lemmas.Int.{to_z-of_z}
 use Rattle.model.specs.Basics.{pick}
 use Rattle.layout.specs.Sizes.{sizes_of}
-use Rattle.layout.specs.State.{desk_of}
 use Rattle.model.specs.Desk.{make, sender, area}
 use Rattle.model.specs.System.{taken}
 use Rattle.stack.specs.View.{packed, windows_of}

@@ -1,7 +1,6 @@
-use Rattle.std.proofs.Common.{◌≡◌, ◌≤◌, length, Some, None, sym, refl, ap, ◌∙◌, subst, arith}
+use Rattle.std.proofs.Common.{◌≡◌, ◌≤◌, length, None, sym, ap, ◌∙◌, subst}
 use Rattle.model.specs.Promise.{FitsSizes}
 use Rattle.layout.specs.Budget.{start_refusal}
-use Rattle.layout.specs.Sizes.{sizes_of}
 use Rattle.layout.specs.Head.{sizes_in}
 use Rattle.layout.proofs.Checked.{too_short, room-not, starts}
 use Rattle.layout.proofs.load.load_sizes.Goals as goal

@@ -1,4 +1,4 @@
-use Rattle.std.proofs.Common.{◌≡◌, refl, arith}
+use Rattle.std.proofs.Common.{refl, arith}
 use Rattle.protocol.proofs.ByKind.{of-kind}
 use Rattle.protocol.proofs.Had.{neither}
 use Rattle.protocol.proofs.events.read_kind.Goals as goal

@@ -1,4 +1,4 @@
-use Rattle.std.proofs.Common.{◌≡◌, ◌<◌, arith}
+use Rattle.std.proofs.Common.{arith}
 use Rattle.std.proofs.lemmas.Int.{ints}
 use Rattle.protocol.proofs.Digits.{signed_low, signed_high}
 use Rattle.protocol.proofs.numbers.read_far.Goals as goal

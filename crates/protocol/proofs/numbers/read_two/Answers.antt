@@ -1,4 +1,4 @@
-use Rattle.std.proofs.Common.{sym, arith}
+use Rattle.std.proofs.Common.{sym}
 use Rattle.protocol.proofs.Digits.{number-two}
 use Rattle.protocol.proofs.numbers.read_two.Goals as goal
 

@@ -1,4 +1,4 @@
-use Rattle.std.proofs.Common.{◌≡◌, refl, arith}
+use Rattle.std.proofs.Common.{arith}
 use Rattle.protocol.proofs.ByKind.{word-of-kind}
 use Rattle.protocol.proofs.told.read_word_kind.Goals as goal
 

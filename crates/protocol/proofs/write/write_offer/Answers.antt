@@ -1,4 +1,4 @@
-use Rattle.std.proofs.Common.{◌≡◌, ◌+◌, ◌*◌, true, false, leb, length, drop, sym, refl, ap, ◌∙◌, arith}
+use Rattle.std.proofs.Common.{◌≡◌, ◌+◌, ◌*◌, leb, length, drop, sym, ap, ◌∙◌, arith}
 use Rattle.protocol.specs.Formats.{line}
 use Rattle.protocol.specs.Meaning.{part, lies}
 use Rattle.protocol.proofs.Adding.{added_then, added-last, wrote-row, no_room, not-had}

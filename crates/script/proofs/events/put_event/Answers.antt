@@ -1,9 +1,9 @@
-use Rattle.std.proofs.Common.{◌≡◌, ◌-◌, List, [], ◌∷◌, ◌++◌, length, take, drop, vec_items, ap, ◌∙◌, arith}
+use Rattle.std.proofs.Common.{◌≡◌, ◌-◌, [], ◌∷◌, ◌++◌, length, take, drop, vec_items, ap, ◌∙◌}
 use Rattle.std.proofs.lemmas.Result.{err_from_is_err_and}
 use Rattle.script.specs.Sentences.{texts}
-use Rattle.script.specs.Tables.{number_of, row_of, fields_of, each_bytes, rest_bytes, event_bytes}
+use Rattle.script.specs.Tables.{number_of, row_of, each_bytes, rest_bytes}
 use Rattle.script.proofs.Encoded.{event-said}
-use Rattle.script.proofs.Going.{Going, going_start, going-by, going_more, going-put, going-stop, going-last}
+use Rattle.script.proofs.Going.{going_start, going-by, going_more, going-put, going-stop, going-last}
 use Rattle.script.proofs.Left.{event-few, event-parts}
 use Rattle.script.proofs.events.put_event.Goals as goal
 

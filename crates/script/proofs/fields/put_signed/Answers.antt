@@ -1,4 +1,4 @@
-use Rattle.std.proofs.Common.{◌≡◌, ℕ, ◌/◌, ◌%◌, ◌<◌, List, [], ◌∷◌, Some, None, sym, ap, ◌∙◌, to_z-of_z, w16, SFits, to_z, of_z, rules}
+use Rattle.std.proofs.Common.{◌≡◌, Some, sym, ap, ◌∙◌, to_z-of_z, w16, SFits, rules}
 use Rattle.std.specs.Option.{option_map}
 use Rattle.protocol.specs.Fields.{digits, unsigned}
 use Rattle.script.specs.Putting.{near_bytes}

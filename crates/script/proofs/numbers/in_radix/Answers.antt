@@ -1,5 +1,5 @@
-use Rattle.std.proofs.Common.{◌≡◌, ℕ, ◌^◌, ◌<◌, get_or, subst, arith, lit<}
-use Rattle.std.specs.Str.Parse.{digits_value, IsNumeral, without_leading_plus}
+use Rattle.std.proofs.Common.{◌≡◌, ◌^◌, ◌<◌, subst, arith, lit<}
+use Rattle.std.specs.Str.Parse.{digits_value, IsNumeral}
 use Rattle.std.proofs.lemmas.Str.Parse.{without_leading_plus_none}
 use Rattle.std.proofs.lemmas.Str.Pattern.{starts_char}
 use Rattle.std.proofs.lemmas.Bool.{both_ways}

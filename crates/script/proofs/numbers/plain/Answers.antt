@@ -1,4 +1,4 @@
-use Rattle.std.proofs.Common.{◌≡◌, refl, ◌∙◌}
+use Rattle.std.proofs.Common.{◌∙◌}
 use Rattle.script.proofs.Digits.{plain-hex, plain-decimal}
 use Rattle.script.proofs.numbers.plain.Goals as goal
 

@@ -1,4 +1,4 @@
-use Rattle.std.proofs.Common.{◌≡◌, ℤ, pos, neg_ℤ, Some, None, ap, ◌∙◌, lit<, to_z-of_z, w16, SFits, rules}
+use Rattle.std.proofs.Common.{pos, neg_ℤ, Some, None, ap, ◌∙◌, lit<, to_z-of_z, w16, SFits, rules}
 use Rattle.std.specs.Option.{option_map}
 use Rattle.std.proofs.lemmas.Str.Pattern.{strip_prefix_char}
 use Rattle.script.proofs.Digits.{signed-minus, signed-plain}

@@ -1,4 +1,3 @@
-use Rattle.std.proofs.Common.{arith}
 use Rattle.std.proofs.lemmas.Result.{err_from_is_err_and}
 use Rattle.script.proofs.Going.{going_start, going-by, going-put, going-stop, going_end}
 use Rattle.script.proofs.Left.{all_more, all_end}

@@ -1,11 +1,9 @@
-use Rattle.std.proofs.Common.{◌≡◌, true, false, ◌++◌, length, vec_items, sym, refl, ap, ◌∙◌, arith}
-use Rattle.std.proofs.lemmas.Bool.{lt-ltb, le-ltb}
-use Rattle.std.proofs.lemmas.Result.{err_from_is_err_and}
+use Rattle.std.proofs.Common.{◌≡◌, ◌++◌, length, vec_items, ap, ◌∙◌, arith}
 use Rattle.protocol.specs.Fields.{digits}
 use Rattle.script.specs.Sentences.{texts}
-use Rattle.script.specs.Tables.{row_bytes, all_bytes, before}
+use Rattle.script.specs.Tables.{all_bytes}
 use Rattle.script.proofs.Bytes.{two_digits}
-use Rattle.script.proofs.Going.{blames, going_start, going-by, going_more, going-last}
+use Rattle.script.proofs.Going.{going_start, going-by, going_more, going-last}
 use Rattle.script.proofs.Left.{row-short, row-long}
 use Rattle.script.proofs.rows.put_row.Goals as goal
 

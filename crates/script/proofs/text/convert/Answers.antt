@@ -1,4 +1,4 @@
-use Rattle.std.proofs.Common.{◌≡◌, ap, ◌∙◌, arith, rules}
+use Rattle.std.proofs.Common.{ap, ◌∙◌, rules}
 use Rattle.std.specs.Str.Iter.{lines_rest}
 use Rattle.script.proofs.Going.{blames}
 use Rattle.script.proofs.Reading.{sofar-none, sofar-fits, sofar-more, sofar-wrong, sofar-end}

@@ -1,4 +1,4 @@
-use Rattle.std.proofs.Common.{◌≡◌, vec_items, subst}
+use Rattle.std.proofs.Common.{vec_items, subst}
 use Rattle.std.specs.Option.{option_map}
 use Rattle.script.specs.Putting.{Puts}
 use Rattle.script.specs.Sentences.{texts}

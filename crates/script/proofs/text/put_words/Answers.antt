@@ -1,4 +1,4 @@
-use Rattle.std.proofs.Common.{◌≡◌, [], vec_items, sym, subst, append-nil}
+use Rattle.std.proofs.Common.{[], vec_items, sym, subst, append-nil}
 use Rattle.script.specs.Putting.{Puts}
 use Rattle.script.proofs.Reading.{sentence-none, sentence-named}
 use Rattle.script.proofs.text.put_words.Goals as goal

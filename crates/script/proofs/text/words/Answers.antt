@@ -1,6 +1,5 @@
-use Rattle.std.proofs.Common.{◌≡◌, true, cond, [], ◌∷◌, ◌++◌, is_ok, vec_items, sym, ap, ◌∙◌}
+use Rattle.std.proofs.Common.{◌≡◌, cond, [], ◌∷◌, ◌++◌, is_ok, vec_items, ap, ◌∙◌}
 use Rattle.std.specs.Str.Iter.{split_whitespace_rest}
-use Rattle.script.specs.Sentences.{texts}
 use Rattle.script.proofs.Reading.{first_of, word_more, word_end}
 use Rattle.script.proofs.text.words.Goals as goal
 

@@ -1,6 +1,5 @@
-use Rattle.std.proofs.Common.{◌≡◌, ◌≤◌, length, None, sym, refl, ◌∙◌, arith}
+use Rattle.std.proofs.Common.{◌≤◌, length, sym, refl, arith}
 use Rattle.model.specs.Promise.{FitsSizes}
-use Rattle.layout.specs.Budget.{start_refusal}
 use Rattle.layout.specs.Sizes.{sizes_of}
 use Rattle.layout.proofs.Checked.{starts}
 use Rattle.server.proofs.Beginning.{begun}

@@ -1,4 +1,3 @@
-use Rattle.std.proofs.Common.{◌≡◌, sym}
 use Rattle.server.proofs.Opening.{not-sized, called}
 use Rattle.server.proofs.call.event.Goals as goal
 

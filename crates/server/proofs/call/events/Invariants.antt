@@ -1,4 +1,4 @@
-use Rattle.std.proofs.Common.{◌≡◌, ◌-◌, ◌≤◌, length}
+use Rattle.std.proofs.Common.{◌-◌, ◌≤◌, length}
 use Rattle.layout.specs.Sizes.{sizes_of}
 use Rattle.layout.specs.State.{desk_of, Good}
 use Rattle.server.proofs.Going.{Going}

@@ -1,9 +1,7 @@
 use Rattle.std.proofs.Common.{◌<◌, drop, refl, arith, w32, SFits, rules}
 use Rattle.std.proofs.lemmas.Int.{ints}
 use Rattle.protocol.specs.Laws.{CarriedWord, Far, Row}
-use Rattle.protocol.specs.declared.types.Word.TheVariants.{No, Done, Made, At, Pressed, Typed, Pasted}
 use Rattle.protocol.proofs.Rows.{length-numbers, numbers-small, bytes_drop}
-use Rattle.server.specs.Step.{grants}
 use Rattle.server.proofs.step.is_grant.Goals as goal
 
 pub returns-in-No : goal.returns-in-No

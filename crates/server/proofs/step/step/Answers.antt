@@ -1,9 +1,8 @@
-use Rattle.std.proofs.Common.{◌≡◌, length, sym, ap, ◌∙◌, subst, arith}
-use Rattle.model.specs.Desk.{after}
+use Rattle.std.proofs.Common.{◌≡◌, length, ap, subst, arith}
 use Rattle.protocol.specs.Meaning.{meaning}
 use Rattle.protocol.proofs.Adding.{added-as}
 use Rattle.layout.specs.Sizes.{sizes_of}
-use Rattle.layout.specs.State.{desk_of, Good}
+use Rattle.layout.specs.State.{Good}
 use Rattle.server.specs.Told.{told_bytes, AllCarried}
 use Rattle.server.proofs.Telling.{stepped, told-room}
 use Rattle.server.proofs.step.step.Goals as goal

@@ -1,4 +1,4 @@
-use Rattle.std.proofs.Common.{◌≡◌, length, sym, ◌∙◌, arith}
+use Rattle.std.proofs.Common.{length, arith}
 use Rattle.std.proofs.lemmas.Bool.{both_ways}
 use Rattle.server.proofs.Telling.{told_none, told-some, told-fits}
 use Rattle.server.proofs.step.tell.Goals as goal

@@ -1,4 +1,4 @@
-use Rattle.std.proofs.Common.{◌≡◌, List}
+use Rattle.std.proofs.Common.{◌≡◌}
 use Rattle.script.specs.declared.kinds.Kind.{Kind}
 use Rattle.script.specs.declared.kinds.Kind.TheVariants.{Make, Close, Move, Raise, Show, Fill, Put, Copy, Offer, Point, Press, Key, Paste}
 use Rattle.script.specs.Kinds.{name_of}

@@ -1,7 +1,6 @@
-use Rattle.std.proofs.Common.{◌≡◌, ◌<◌, length, sym, refl, arith, rules}
+use Rattle.std.proofs.Common.{◌<◌, length, sym, refl, arith, rules}
 use Rattle.std.proofs.lemmas.List.{take_more_set, length-take-le}
 use Rattle.std.proofs.lemmas.Bool.{lt-ltb}
-use Rattle.stack.specs.View.{order_of}
 use Rattle.stack.proofs.state.Stack.append.Goals as goal
 
 pub returns : goal.returns

@@ -1,4 +1,4 @@
-use Rattle.std.proofs.Common.{◌≡◌, ◌<◌, length, arith}
+use Rattle.std.proofs.Common.{arith}
 use Rattle.stack.specs.View.{slots_of}
 use Rattle.stack.proofs.Slots.{length-slots}
 use Rattle.stack.proofs.Areas.{area-step, area-end}

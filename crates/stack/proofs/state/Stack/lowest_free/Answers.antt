@@ -1,4 +1,4 @@
-use Rattle.std.proofs.Common.{◌≡◌, ◌<◌, length, get_or, is_some, None, sym, ap, ◌∙◌, arith}
+use Rattle.std.proofs.Common.{is_some, None, sym, ap, ◌∙◌, arith}
 use Rattle.stack.specs.View.{slots_of}
 use Rattle.stack.proofs.Slots.{length-slots, slot-past, slot-none}
 use Rattle.stack.proofs.Frees.{free-none, free-some, free-end}

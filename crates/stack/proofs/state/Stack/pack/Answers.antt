@@ -1,5 +1,5 @@
-use Rattle.std.proofs.Common.{◌≡◌, ◌+◌, ◌*◌, ◌≤◌, get_or, take, set, None, sym, ap, ◌∙◌, add-one, arith}
-use Rattle.stack.specs.View.{begun, size_of, packed}
+use Rattle.std.proofs.Common.{◌≡◌, ◌+◌, get_or, take, set, None, sym, ap, ◌∙◌, add-one, arith}
+use Rattle.stack.specs.View.{begun, size_of}
 use Rattle.stack.proofs.Slots.{slot-in}
 use Rattle.stack.proofs.Packing.{packing, ending, packing-at, packing-more, ending-more, packing-all}
 use Rattle.stack.proofs.state.Stack.pack.Goals as goal

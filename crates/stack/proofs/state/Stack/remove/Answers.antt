@@ -1,4 +1,4 @@
-use Rattle.std.proofs.Common.{sym, refl, ◌∙◌, arith, rules}
+use Rattle.std.proofs.Common.{refl, rules}
 use Rattle.stack.proofs.Kept.{kept-none, kept-skip, kept_more}
 use Rattle.stack.proofs.state.Stack.remove.Goals as goal
 use Rattle.stack.proofs.state.Stack.remove.Goals.{then-m-n, else-m-n}

@@ -1,4 +1,4 @@
-use Rattle.std.proofs.Common.{arith, rules}
+use Rattle.std.proofs.Common.{arith}
 use Rattle.model.specs.Desk.{in_window}
 use Rattle.std.proofs.lemmas.Int.{to_z-of_z}
 use Rattle.stack.proofs.state.Window.covers.Goals as goal

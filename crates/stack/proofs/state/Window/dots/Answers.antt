@@ -1,4 +1,4 @@
-use Rattle.std.proofs.Common.{◌≤◌, refl, arith, rules}
+use Rattle.std.proofs.Common.{◌≤◌, refl, rules}
 use Rattle.std.proofs.lemmas.Nat.{mul-le}
 use Rattle.stack.proofs.state.Window.dots.Goals as goal
 
