@@ -1,5 +1,5 @@
 -- What parts of a load give.
-use Rattle.std.specs.Prelude.{◌≡◌, ℕ, ◌<◌, ◌≤◌, true, false, not, ◌&&◌, ltb, List, length, take, is_some, Some, None, Option, nat_le, nat_lt, slice_index}
+use Rattle.std.specs.Prelude.{◌≡◌, ℕ, ◌<◌, ◌≤◌, true, false, not, ◌&&◌, List, length, take, is_some, Some, None, Option, nat_le, nat_lt, slice_index}
 use Rattle.model.specs.Promise.{times}
 use Rattle.stack.specs.declared.state.Window.{Window}
 use Rattle.stack.specs.declared.state.Stack.{Stack}
@@ -15,12 +15,12 @@ use Rattle.layout.specs.Head.{all_of, handed, clipped, low, high, word, bytes_in
 
 -- how often each number below a limit stands in an order
 pub record Tally (limit : ℕ) (o seen : List ℕ) : Type 0 where
-  pub below : all_of (λ n. ltb n limit) o ≡ true
+  pub below : all_of (λ n. nat_lt n limit) o ≡ true
   pub count : (n : ℕ) → n < limit → slice_index seen n ≡ times n o
   pub long : length seen ≡ 255
 
 abbrev pub Tallied : ℕ → List ℕ → Option (List ℕ) → Type 0
-Tallied limit o None = all_of (λ n. ltb n limit) o ≡ false
+Tallied limit o None = all_of (λ n. nat_lt n limit) o ≡ false
 Tallied limit o (Some seen) = Tally limit o seen
 
 -- the windows that have the keys and the pointer, from their word
