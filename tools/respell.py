@@ -1,7 +1,7 @@
 #!/usr/bin/env python3
 """Respells the definitions of this repository's specs as the toolchain's style has them: a type or a fact in upper camel case (Same-screen becomes
-SameScreen), everything else in snake case (with-window becomes with_window). The name of a lemma keeps the dashes that join names, and a definition's
-name inside it is respelled (with-window-keys becomes with_window-keys).
+SameScreen), everything else in snake case (with-window becomes with_window). A type or a fact of proofs/ is respelled as one of specs/; the name of a
+lemma keeps the dashes that join names, and a definition's name inside it is respelled (with-window-keys becomes with_window-keys).
 
 Run at the top of the repository, once, after the toolchain's own script: python3 tools/respell.py [--show]
 It stops, with nothing written, where a new name stands somewhere already and is no function of src/ (which may share the name of what it computes).
@@ -18,7 +18,7 @@ BEHIND = r"(?![^\s(){};,.:`'\"\[\]|])"
 
 def respelled(name):
     if name[0].isupper():
-        return "".join(part[0].upper() + part[1:] for part in name.split("-"))
+        return "".join(part[0].upper() + part[1:] for part in re.split("[-_]", name))
     return name.replace("-", "_")
 
 
@@ -27,7 +27,7 @@ def declared(folder, inner):
     for path in sorted(Path("crates").glob(f"*/{folder}")):
         text = path.read_text()
         found = DECLARED.findall(text) + RECORD.findall(text)
-        names |= {n for n in found if "-" in n[1:] and n[0] not in "-(" and re.fullmatch(r"[^◌()]+", n)}
+        names |= {n for n in found if ("-" in n[1:] or n[0].isupper() and "_" in n) and n[0] not in "-(" and re.fullmatch(r"[^◌()]+", n)}
     return {n for n in names if inner(n)}
 
 
@@ -36,6 +36,9 @@ def table():
     names = {n: respelled(n) for n in definitions}
     lemmas = declared("proofs/*.antt", lambda n: n not in definitions)
     for lemma in lemmas:
+        if lemma[0].isupper():
+            names[lemma] = respelled(lemma)
+            continue
         parts, out, k = lemma.split("-"), [], 0
         while k < len(parts):
             for m in range(len(parts), k, -1):

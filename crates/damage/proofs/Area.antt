@@ -84,8 +84,8 @@ over_add : (w h : ℕ) (f g : ℕ → ℕ → ℕ) → over w h (λ i j. f i j +
 over_add w h f g = sum_by h _ (λ j. sum w (λ i. f i j) + sum w (λ i. g i j)) (λ j _. sum-add w (λ i. f i j) (λ i. g i j)) ∙ sum-add h (λ j. sum w (λ i. f i j)) (λ j. sum w (λ i. g i j))
 
 -- a box without dots, or one that lies on the screen
-abbrev Fits-on : Sizes → Rect → Type 0
-Fits-on z r = (r.high * r.wide ≡ 0) ⊎ ((r.x + r.wide ≤ z.wide) × (r.y + r.high ≤ z.high))
+abbrev FitsOn : Sizes → Rect → Type 0
+FitsOn z r = (r.high * r.wide ≡ 0) ⊎ ((r.x + r.wide ≤ z.wide) × (r.y + r.high ≤ z.high))
 
 corner-in : (r : Rect) → 0 < r.wide → 0 < r.high → in_rect r (r.x + (r.wide - 1)) (r.y + (r.high - 1)) ≡ true
 unfolding in_box
@@ -94,10 +94,10 @@ corner-in r p q = grind (arith, nat_tests)
 on-parts : (z : Sizes) (i j : ℕ) → 1 ≤ bit (on z i j) → (i < z.wide) × (j < z.high)
 on-parts z i j = by-pick (on z i j) 1 0 (λ v. 1 ≤ v → (i < z.wide) × (j < z.high)) (λ e _. let p = and_parts (ltb i z.wide) (ltb j z.high) e in (ltb-true _ _ p.0, ltb-true _ _ p.1)) (λ e h. absurd (omega arith))
 
-fits_on : (z : Sizes) (r : Rect) (rs : List Rect) → ((i j : ℕ) → covered (r ∷ rs) i j ≤ bit (on z i j)) → Fits-on z r
+fits_on : (z : Sizes) (r : Rect) (rs : List Rect) → ((i j : ℕ) → covered (r ∷ rs) i j ≤ bit (on z i j)) → FitsOn z r
 fits_on z r rs h = by (cases_lt 0 r.wide) (cases_lt 0 r.high)
   where
-    by : (0 < r.wide) ⊎ (r.wide ≤ 0) → (0 < r.high) ⊎ (r.high ≤ 0) → Fits-on z r
+    by : (0 < r.wide) ⊎ (r.wide ≤ 0) → (0 < r.high) ⊎ (r.high ≤ 0) → FitsOn z r
     by (inr a) b = let e : r.wide ≡ 0 = omega arith in inl (rw e (mul-zero r.high))
     by (inl a) (inr b) = let e : r.high ≡ 0 = omega arith in inl (rw e (zero-mul r.wide))
     by (inl a) (inl b) =
@@ -109,7 +109,7 @@ fits_on z r rs h = by (cases_lt 0 r.wide) (cases_lt 0 r.high)
         let o = on-parts z i j (omega (arith, c, t, m)) in
         inr (omega (arith, o.0), omega (arith, o.1))
 
-box-less : (z : Sizes) (r : Rect) → Fits-on z r → r.high * r.wide ≤ over z.wide z.high (λ i j. bit (in_rect r i j))
+box-less : (z : Sizes) (r : Rect) → FitsOn z r → r.high * r.wide ≤ over z.wide z.high (λ i j. bit (in_rect r i j))
 box-less z r (inl e) = omega arith
 box-less z r (inr p) = omega (arith, box-sum z.wide z.high r p.0 p.1)
 

@@ -46,9 +46,9 @@ pub record Whole (wide high : ℕ) (b : Box) : Type 0 where
   pub x-half : b.x < 65536
   pub wide-half : b.wide < 65536
 
-pub data All-whole (wide high : ℕ) : List Box → Type 0 where
-  none : All-whole wide high []
-  more : {b : Box} {bs : List Box} → Whole wide high b → All-whole wide high bs → All-whole wide high (b ∷ bs)
+pub data AllWhole (wide high : ℕ) : List Box → Type 0 where
+  none : AllWhole wide high []
+  more : {b : Box} {bs : List Box} → Whole wide high b → AllWhole wide high bs → AllWhole wide high (b ∷ bs)
 
 pub lies-parts : (wide high : ℕ) (h : Head) → lies_on wide high h ≡ true → (1 ≤ h.wide) × (1 ≤ h.high) × (h.x + h.wide ≤ wide) × (h.y + h.high ≤ high)
 lies-parts wide high h e =
@@ -82,14 +82,14 @@ box-whole wide high p q ws e =
     record { across = s.0; down = s.1; right = s.2; below = s.3; size = length-take-le _ ws s.4; x-half = omega arith; wide-half = omega arith }
 
 -- what is read is what was written
-pub decoded : (n wide high : ℕ) (ws : List ℕ) (bs : List Box) → up_to n wide high ws ≡ Some bs → (encode bs ≡ ws) × All-whole wide high bs
+pub decoded : (n wide high : ℕ) (ws : List ℕ) (bs : List Box) → up_to n wide high ws ≡ Some bs → (encode bs ≡ ws) × AllWhole wide high bs
 unfolding up_to encode
 decoded n wide high [] [] e = (refl, none)
 decoded n wide high [] (b ∷ bs) e = absurd (let z : ◌≡◌ {A = ℕ} 0 1 = cc in omega arith)
 decoded n wide high (p ∷ []) bs e = absurd (let z : ◌≡◌ {A = ℕ} 0 1 = cc in omega arith)
 decoded zero wide high (p ∷ q ∷ ws) bs e = absurd (let z : ◌≡◌ {A = ℕ} 0 1 = cc in omega arith)
 decoded (suc n) wide high (p ∷ q ∷ ws) bs e =
-    by-pick (stands_on wide high (length ws) (head_of p q)) (before (box_of (head_of p q) ws) (up_to n wide high rest)) None (λ o. o ≡ Some bs → (encode bs ≡ p ∷ q ∷ ws) × All-whole wide high bs)
+    by-pick (stands_on wide high (length ws) (head_of p q)) (before (box_of (head_of p q) ws) (up_to n wide high rest)) None (λ o. o ≡ Some bs → (encode bs ≡ p ∷ q ∷ ws) × AllWhole wide high bs)
     (λ s g.
     let t = before-some (box_of (head_of p q) ws) (up_to n wide high rest) bs g in
     let d = decoded n wide high rest t.0 t.1 in
@@ -115,7 +115,7 @@ read_first : (wide high left : ℕ) (g h : Head) (b : Box) (ws vs : List ℕ) (b
 read_first wide high left g h b ws vs bs z s e d r = rw (z, s, e, d, r)
 
 -- what is written is read
-pub coded : (wide high : ℕ) (bs : List Box) → All-whole wide high bs → boxes_in wide high (encode bs) ≡ Some bs
+pub coded : (wide high : ℕ) (bs : List Box) → AllWhole wide high bs → boxes_in wide high (encode bs) ≡ Some bs
 unfolding up_to encode
 coded wide high [] none = refl
 coded wide high (b ∷ bs) (more w a) =
@@ -137,7 +137,7 @@ unfolding encode
 encode-append [] cs = refl
 encode-append (b ∷ bs) cs = ap (λ l. (b.x + 65536 * b.y) ∷ (b.wide + 65536 * b.high) ∷ l) (ap (λ l. b.dots ++ l) (encode-append bs cs) ∙ sym (append_assoc b.dots (encode bs) (encode cs)))
 
-whole_append : (wide high : ℕ) (bs cs : List Box) → All-whole wide high bs → All-whole wide high cs → All-whole wide high (bs ++ cs)
+whole_append : (wide high : ℕ) (bs cs : List Box) → AllWhole wide high bs → AllWhole wide high cs → AllWhole wide high (bs ++ cs)
 whole_append wide high [] cs none k = k
 whole_append wide high (b ∷ bs) cs (more w h) k = more w (whole_append wide high bs cs h k)
 
@@ -153,15 +153,15 @@ puts-join f [] cs i j = refl
 puts-join f (b ∷ bs) cs i j = puts-join (with_box f b) bs cs i j
 
 -- what the laws say of such boxes
-pub whole-formed : (wide high : ℕ) (bs : List Box) → All-whole wide high bs → Formed bs
+pub whole-formed : (wide high : ℕ) (bs : List Box) → AllWhole wide high bs → Formed bs
 whole-formed wide high [] none = tt
 whole-formed wide high (b ∷ bs) (more w h) = (w.across, w.down, w.size, whole-formed wide high bs h)
 
-pub whole-on : (wide high : ℕ) (bs : List Box) → All-whole wide high bs → OnScreen wide high bs
+pub whole-on : (wide high : ℕ) (bs : List Box) → AllWhole wide high bs → OnScreen wide high bs
 whole-on wide high [] none = tt
 whole-on wide high (b ∷ bs) (more w h) = (w.right, w.below, whole-on wide high bs h)
 
-pub formed-whole : (wide high : ℕ) (bs : List Box) → wide ≤ 65535 → high ≤ 65535 → Formed bs → OnScreen wide high bs → All-whole wide high bs
+pub formed-whole : (wide high : ℕ) (bs : List Box) → wide ≤ 65535 → high ≤ 65535 → Formed bs → OnScreen wide high bs → AllWhole wide high bs
 formed-whole wide high [] h k f o = none
 formed-whole wide high (b ∷ bs) h k f o =
     more (record { across = f.0; down = f.1; right = o.0; below = o.1; size = f.2; x-half = omega (arith, o.0); wide-half = omega (arith, o.0) })

@@ -47,12 +47,12 @@ unfolding start_refusal Ranges
 starts-not z pictures work s = rw ((ranges z).1 s.fits, le-leb z.dots pictures s.dots, le-leb (work_room z) work s.room)
 
 -- what an event that is not refused has: room in sent and words for it too
-pub record Goes_on (z : desk.Sizes) (lent : Lent) (used : Used) : Type 0 where
+pub record GoesOn (z : desk.Sizes) (lent : Lent) (used : Used) : Type 0 where
   pub start : Starts z lent.pictures lent.work
   pub sent : used.sent + sent_room z ≤ lent.sent
   pub words : used.words + words_room ≤ lent.words
 
-pub goes_on : (z : desk.Sizes) (lent : Lent) (used : Used) → event_refusal z lent used ≡ None → Goes_on z lent used
+pub goes_on : (z : desk.Sizes) (lent : Lent) (used : Used) → event_refusal z lent used ≡ None → GoesOn z lent used
 unfolding event_refusal
 goes_on z lent used e =
     let a = first-none (start_refusal z lent.pictures lent.work) _ e in

@@ -212,12 +212,12 @@ unfolding after
 after-off z d e n t = by-pick (z.built (kind e)) (does z d e) (d, sender e) (Off d n) (λ _. does-off z d e n t) (λ _ _ _. refl)
 
 -- two dots that no edge of an event's grid parts, across or down
-abbrev Same-hurt : Sizes → Desk → Event → Type 0
-Same-hurt z d e =
+abbrev SameHurt : Sizes → Desk → Event → Type 0
+SameHurt z d e =
     ((k u v : ℕ) → u < z.wide → v < z.wide → Agree (x_edges z d (after z d e).0 (pred (subject e)) (painted_box e)) u v → hurt d (after z d e).0 e u k ≡ hurt d (after z d e).0 e v k) ×
     ((k u v : ℕ) → u < z.high → v < z.high → Agree (y_edges z d (after z d e).0 (pred (subject e)) (painted_box e)) u v → hurt d (after z d e).0 e k u ≡ hurt d (after z d e).0 e k v)
 
-same-hurt : (z : Sizes) (d : Desk) (e : Event) → Same-hurt z d e
+same-hurt : (z : Sizes) (d : Desk) (e : Event) → SameHurt z d e
 unfolding hurt subject painted_box
 same-hurt z d (make c x y w h) = (λ _ _ _ _ _ _. refl, λ _ _ _ _ _ _. refl)
 same-hurt z d (close c n) =

@@ -75,15 +75,15 @@ unfolding window with_hands with_order with_window
 gone-window d n k h o = gone-here d.windows n
 
 -- an event's outcome in which the window n is as it was
-abbrev pub Same-window : Desk → ℕ → Desk × List (ℕ × Word) → Type 0
-Same-window d n r = window r.0 n ≡ window d n
+abbrev pub SameWindow : Desk → ℕ → Desk × List (ℕ × Word) → Type 0
+SameWindow d n r = window r.0 n ≡ window d n
 
-pub down-window : (d : Desk) (n k : ℕ) → Same-window d n (press_down d k)
+pub down-window : (d : Desk) (n k : ℕ) → SameWindow d n (press_down d k)
 unfolding press_down
 down-window d n zero = hands-window d 0 0 n
 down-window d n (suc k) = hands-window d (suc k) (suc k) n
 
-pub up-window : (d : Desk) (n k : ℕ) → Same-window d n (press_up d k)
+pub up-window : (d : Desk) (n k : ℕ) → SameWindow d n (press_up d k)
 unfolding press_up
 up-window d n zero = refl
 up-window d n (suc k) = hands-window d d.keys 0 n

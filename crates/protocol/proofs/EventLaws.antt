@@ -9,7 +9,7 @@ use Rattle.protocol.specs.Formats.{encode, event_format, decode_kind, decode_eve
 use Rattle.protocol.specs.Laws.{Carried, Sent, Begins, ReadsBack, ReadsOnly, FaultsFirst, FaultsWhereNone, Worked}
 use Rattle.protocol.proofs.Tests.{err-same, ok-not-err, err-not-ok, by-pick, there-ok, by-there, ends-within, goes_on, stands, one_more, answer, size-read}
 use Rattle.protocol.proofs.FieldFaults.{heads}
-use Rattle.protocol.proofs.Sequences.{Values, apply, bytes, Fits, all_read, All-got, all-only, some-all, All-bad, past, all-faults}
+use Rattle.protocol.proofs.Sequences.{Values, apply, bytes, Fits, all_read, AllGot, all-only, some-all, AllBad, past, all-faults}
 
 -- an event by its kind and what its fields say
 record View (p : ℕ) (e : Event) : Type 0 where
@@ -133,7 +133,7 @@ event-only built p bs k b r =
     (λ l q. absurd (err-not-ok r (length bs) q))
   where
     was : k + 1 ≤ length bs → (ltb (get_or bs k 0) 13 ≡ true) × (built (get_or bs k 0) ≡ true) →
-        All-got p (event_format (get_or bs k 0)).fields (event_format (get_or bs k 0)).says bs k 1 r → Was built p bs k r
+        AllGot p (event_format (get_or bs k 0)).fields (event_format (get_or bs k 0)).says bs k 1 r → Was built p bs k r
     was l on a =
         let g = get_or bs k 0 in
         let fs = (event_format g).fields in
@@ -154,21 +154,21 @@ some-event built p pos c =
     (apply (event_format q).fields (event_format q).says s.0, (k.carried, ap built k.of-kind ∙ c.2))
 
 -- what is known of a fault, but that no event stands there
-record Fault-at (built : ℕ → Bool) (p : ℕ) (bs : List ℕ) (k j : ℕ) : Type 0 where
+record FaultAt (built : ℕ → Bool) (p : ℕ) (bs : List ℕ) (k j : ℕ) : Type 0 where
   from : k ≤ j
   within : j ≤ length bs
   before : (e : Event) × Sent built p e × Begins encode bs k (j - k) e
   here : j < length bs → (e : Event) → Sent built p e → Begins encode bs k (suc (j - k)) e → ⊥
 
 event-faults : (built : ℕ → Bool) (p : ℕ) (bs : List ℕ) (k : ℕ) → Bytes bs → k ≤ length bs → 0 < p → ((q : ℕ) × (q < 13) × (built q ≡ true)) →
-    (j : ℕ) → decode_event built p bs k ≡ Err j → Fault-at built p bs k j
+    (j : ℕ) → decode_event built p bs k ≡ Err j → FaultAt built p bs k j
 event-faults built p bs k b h pos c j =
     let g = get_or bs k 0 in
-    by-there bs (k + 1) _ (λ x. x ≡ Err j → Fault-at built p bs k j)
-    (λ l. by-pick (ltb g 13 && built g) _ _ (λ x. x ≡ Err j → Fault-at built p bs k j)
+    by-there bs (k + 1) _ (λ x. x ≡ Err j → FaultAt built p bs k j)
+    (λ l. by-pick (ltb g 13 && built g) _ _ (λ x. x ≡ Err j → FaultAt built p bs k j)
     (λ t q. inside l (and_parts (ltb g 13) (built g) t) (all-faults (event_format g).fields (event_format g).says p bs k 1 l b pos j q))
-    (λ t q. subst (Fault-at built p bs k) (err-same {A = Event} k j q) (at-kind l t)))
-    (λ l q. subst (Fault-at built p bs k) (err-same {A = Event} (length bs) j q) (at-end l))
+    (λ t q. subst (FaultAt built p bs k) (err-same {A = Event} k j q) (at-kind l t)))
+    (λ l q. subst (FaultAt built p bs k) (err-same {A = Event} (length bs) j q) (at-end l))
   where
     e0 : (e : Event) × Sent built p e
     e0 = some-event built p pos c
@@ -177,7 +177,7 @@ event-faults built p bs k b h pos c j =
     front : (n : ℕ) → k + 1 ≤ length bs → k + 1 ≤ n → take (n - k) (drop k bs) ≡ get_or bs k 0 ∷ take (n - (k + 1)) (drop (k + 1) bs)
     front n l m = past bs (get_or bs k 0 ∷ []) k (k + 1) n refl (one_more bs k (k + 1) (omega arith) refl) m
 
-    at-end : length bs < k + 1 → Fault-at built p bs k (length bs)
+    at-end : length bs < k + 1 → FaultAt built p bs k (length bs)
     at-end l =
         record {
           from = h;
@@ -186,7 +186,7 @@ event-faults built p bs k b h pos c j =
           here = λ m _ _ _. omega arith;
         }
 
-    at-kind : k + 1 ≤ length bs → (ltb (get_or bs k 0) 13 && built (get_or bs k 0)) ≡ false → Fault-at built p bs k k
+    at-kind : k + 1 ≤ length bs → (ltb (get_or bs k 0) 13 && built (get_or bs k 0)) ≡ false → FaultAt built p bs k k
     at-kind l off =
         let z : k - k ≡ 0 = omega arith in
         record {
@@ -206,7 +206,7 @@ event-faults built p bs k b h pos c j =
               both_ways (ltb g 13 && built g) off on;
         }
 
-    inside : k + 1 ≤ length bs → (ltb (get_or bs k 0) 13 ≡ true) × (built (get_or bs k 0) ≡ true) → All-bad p (event_format (get_or bs k 0)).fields bs k 1 j → Fault-at built p bs k j
+    inside : k + 1 ≤ length bs → (ltb (get_or bs k 0) 13 ≡ true) × (built (get_or bs k 0) ≡ true) → AllBad p (event_format (get_or bs k 0)).fields bs k 1 j → FaultAt built p bs k j
     inside l on d =
         let g = get_or bs k 0 in
         let fs = (event_format g).fields in
@@ -230,7 +230,7 @@ event-faults built p bs k b h pos c j =
               ap (λ n. take n (drop k bs)) z1 ∙ front (suc j) l (omega (arith, d.from)) ∙ ap (λ n. g ∷ take n (drop (k + 1) bs)) z2 in
               let e1 : g ∷ (rest ++ w.0) ≡ v.q ∷ bytes (event_format v.q).fields v.values = sym (ap (λ t. t ++ w.0) f) ∙ w.1 ∙ v.spelt in
               let same : g ≡ v.q = heads g v.q (rest ++ w.0) (bytes (event_format v.q).fields v.values) e1 in
-              let P : ℕ → Type 0 = λ q. All-bad p (event_format q).fields bs k 1 j in
+              let P : ℕ → Type 0 = λ q. AllBad p (event_format q).fields bs k 1 j in
               let tails : rest ++ w.0 ≡ bytes (event_format v.q).fields v.values = ap (drop 1) e1 in
               (subst P same d).here m v.values w.0 [] v.fits (tails ∙ sym (append-nil (bytes (event_format v.q).fields v.values)));
         }

@@ -40,7 +40,7 @@ all_read (f ∷ fs) m p vs bs t k o fits h e =
     ∙ all_read fs (m v) p vs.1 bs t k (o + n) fits.1 l e2
     ∙ ap (λ j. Ok (apply fs (m v) vs.1, j)) s
 
-pub record All-got {A : Type 0} (p : ℕ) (fs : List Field) (m : From fs A) (bs : List ℕ) (k o : ℕ) (r : A × ℕ) : Type 0 where
+pub record AllGot {A : Type 0} (p : ℕ) (fs : List Field) (m : From fs A) (bs : List ℕ) (k o : ℕ) (r : A × ℕ) : Type 0 where
   pub values : Values fs
   pub fits : Fits p fs values
   pub is : apply fs m values ≡ r.0
@@ -49,11 +49,11 @@ pub record All-got {A : Type 0} (p : ℕ) (fs : List Field) (m : From fs A) (bs 
   pub spelt : drop (k + o) bs ≡ bytes fs values ++ drop r.1 bs
 
 pub all-only : {A : Type 0} (fs : List Field) (m : From fs A) (p : ℕ) (bs : List ℕ) (k o : ℕ) → k + o ≤ length bs → Bytes bs → (r : A × ℕ) → decode fs m p bs k o ≡ Ok r →
-    All-got p fs m bs k o r
+    AllGot p fs m bs k o r
 all-only [] m p bs k o h b r q =
-    subst (All-got p [] m bs k o) (ok_same (m, k + o) r q) (record { values = tt; fits = tt; is = refl; from = omega arith; within = h; spelt = refl })
+    subst (AllGot p [] m bs k o) (ok_same (m, k + o) r q) (record { values = tt; fits = tt; is = refl; from = omega arith; within = h; spelt = refl })
 all-only (f ∷ fs) m p bs k o h b r whole =
-    by-then (field f p bs k o) (λ v to. decode fs (m v) p bs k to) (λ x. x ≡ Ok r → All-got p (f ∷ fs) m bs k o r)
+    by-then (field f p bs k o) (λ v to. decode fs (m v) p bs k to) (λ x. x ≡ Ok r → AllGot p (f ∷ fs) m bs k o r)
     (λ y e q.
     let g = field-only f p bs k o h b y e in
     let a = all-only fs (m y.0) p bs k y.1 g.within b r q in
@@ -72,7 +72,7 @@ pub some-all : (fs : List Field) (p : ℕ) → 0 < p → (vs : Values fs) × Fit
 some-all [] p h = (tt, tt)
 some-all (f ∷ fs) p h = let r = some-all fs p h in ((some f, r.0), (some_fits f p h, r.1))
 
-pub record All-bad (p : ℕ) (fs : List Field) (bs : List ℕ) (k o j : ℕ) : Type 0 where
+pub record AllBad (p : ℕ) (fs : List Field) (bs : List ℕ) (k o j : ℕ) : Type 0 where
   pub from : k + o ≤ j
   pub within : j ≤ length bs
   pub before : (vs : Values fs) × (t : List ℕ) × Fits p fs vs × (take (j - (k + o)) (drop (k + o) bs) ++ t ≡ bytes fs vs)
@@ -92,14 +92,14 @@ past bs xs i to n l e h =
     let z : n - i ≡ length xs + (n - to) = omega arith in
     ap (λ m. take m (drop i bs)) z ∙ ap (take (length xs + (n - to))) e ∙ take-append-add xs (drop to bs) (n - to)
 
-pub all-faults : {A : Type 0} (fs : List Field) (m : From fs A) (p : ℕ) (bs : List ℕ) (k o : ℕ) → k + o ≤ length bs → Bytes bs → 0 < p → (j : ℕ) → decode fs m p bs k o ≡ Err j → All-bad p fs bs k o j
+pub all-faults : {A : Type 0} (fs : List Field) (m : From fs A) (p : ℕ) (bs : List ℕ) (k o : ℕ) → k + o ≤ length bs → Bytes bs → 0 < p → (j : ℕ) → decode fs m p bs k o ≡ Err j → AllBad p fs bs k o j
 all-faults [] m p bs k o h b pos j q = absurd (ok-not-err (m, k + o) j q)
 all-faults (f ∷ fs) m p bs k o h b pos j whole =
-    by-then (field f p bs k o) (λ v to. decode fs (m v) p bs k to) (λ x. x ≡ Err j → All-bad p (f ∷ fs) bs k o j)
+    by-then (field f p bs k o) (λ v to. decode fs (m v) p bs k to) (λ x. x ≡ Err j → AllBad p (f ∷ fs) bs k o j)
     (λ y e q. later y (field-only f p bs k o h b y e) (all-faults fs (m y.0) p bs k y.1 (field-only f p bs k o h b y e).within b pos j q))
-    (λ i e q. subst (All-bad p (f ∷ fs) bs k o) (err-same i j q) (first i (field-faults f p bs k o h b pos i e))) whole
+    (λ i e q. subst (AllBad p (f ∷ fs) bs k o) (err-same i j q) (first i (field-faults f p bs k o h b pos i e))) whole
   where
-    first : (i : ℕ) → Bad p f bs k o i → All-bad p (f ∷ fs) bs k o i
+    first : (i : ℕ) → Bad p f bs k o i → AllBad p (f ∷ fs) bs k o i
     first i d =
         let s = some-all fs p pos in
         let v = d.before.0 in
@@ -112,7 +112,7 @@ all-faults (f ∷ fs) m p bs k o h b pos j whole =
           here = λ l vs t u g e. d.here l vs.0 t (bytes fs vs.1 ++ u) g.0 (e ∙ append_assoc (spell f vs.0) (bytes fs vs.1) u);
         }
 
-    later : (y : Says f × ℕ) → Got p f bs k o y → All-bad p fs bs k y.1 j → All-bad p (f ∷ fs) bs k o j
+    later : (y : Says f × ℕ) → Got p f bs k o y → AllBad p fs bs k y.1 j → AllBad p (f ∷ fs) bs k o j
     later y g a =
         let v = y.0 in
         let xs = spell f v in

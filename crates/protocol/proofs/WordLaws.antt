@@ -9,7 +9,7 @@ use Rattle.protocol.specs.Formats.{encode_word, word_format, decode_word_kind, d
 use Rattle.protocol.specs.Laws.{CarriedWord, spell_told, Told, Begins, ReadsWordBack, ReadsWordsOnly, WordFaultsFirst, WordFaultsWhereNone}
 use Rattle.protocol.proofs.Tests.{ok_same, err-same, ok-not-err, err-not-ok, by-pick, there-ok, by-there, ends-within, goes_on, stands, one_more, answer, size-read}
 use Rattle.protocol.proofs.FieldFaults.{heads}
-use Rattle.protocol.proofs.Sequences.{Values, apply, bytes, Fits, all_read, All-got, all-only, All-bad, past, all-faults}
+use Rattle.protocol.proofs.Sequences.{Values, apply, bytes, Fits, all_read, AllGot, all-only, AllBad, past, all-faults}
 
 -- a word by its kind and what its fields say
 record View (c : ℕ) (w : Word) : Type 0 where
@@ -112,7 +112,7 @@ word-only bs k b r =
     (λ t q. absurd (err-not-ok r (k + 1) q)))
     (λ l q. absurd (err-not-ok r (length bs) q))
   where
-    was : (y : Word × ℕ) → k + 2 ≤ length bs → get_or bs (k + 1) 0 < 7 → All-got 256 (word_format (get_or bs (k + 1) 0)).fields (word_format (get_or bs (k + 1) 0)).says bs k 2 y →
+    was : (y : Word × ℕ) → k + 2 ≤ length bs → get_or bs (k + 1) 0 < 7 → AllGot 256 (word_format (get_or bs (k + 1) 0)).fields (word_format (get_or bs (k + 1) 0)).says bs k 2 y →
         Was bs k ((get_or bs k 0, y.0), y.1)
     was y l low a =
         let c = get_or bs k 0 in
@@ -124,7 +124,7 @@ word-only bs k b r =
         record { sent = (b k, w.0); after = omega (arith, a.from); within = a.within; spelt = w.1 }
 
 -- what is known of a fault, but that no word stands there
-record Fault-at (bs : List ℕ) (k j : ℕ) : Type 0 where
+record FaultAt (bs : List ℕ) (k j : ℕ) : Type 0 where
   from : k ≤ j
   within : j ≤ length bs
   before : (m : ℕ × Word) × Told m × Begins spell_told bs k (j - k) m
@@ -135,24 +135,24 @@ refusal : (c : ℕ) → c < 256 → Told (c, no)
 unfolding CarriedWord
 refusal c h = (h, tt)
 
-word-faults : (bs : List ℕ) (k : ℕ) → Bytes bs → k ≤ length bs → (j : ℕ) → decode_word bs k ≡ Err j → Fault-at bs k j
+word-faults : (bs : List ℕ) (k : ℕ) → Bytes bs → k ≤ length bs → (j : ℕ) → decode_word bs k ≡ Err j → FaultAt bs k j
 word-faults bs k b h j =
     let c = get_or bs k 0 in
     let g = get_or bs (k + 1) 0 in
-    by-there bs (k + 2) _ (λ x. x ≡ Err j → Fault-at bs k j)
-    (λ l. by-pick (ltb g 7) _ _ (λ x. x ≡ Err j → Fault-at bs k j)
-    (λ t. by-told c (decode_word_kind g bs k) (λ x. x ≡ Err j → Fault-at bs k j)
+    by-there bs (k + 2) _ (λ x. x ≡ Err j → FaultAt bs k j)
+    (λ l. by-pick (ltb g 7) _ _ (λ x. x ≡ Err j → FaultAt bs k j)
+    (λ t. by-told c (decode_word_kind g bs k) (λ x. x ≡ Err j → FaultAt bs k j)
     (λ y _ q. absurd (ok-not-err ((c, y.0), y.1) j q))
-    (λ i e q. subst (Fault-at bs k) (err-same {A = ℕ × Word} i j q)
+    (λ i e q. subst (FaultAt bs k) (err-same {A = ℕ × Word} i j q)
     (inside i l (ltb-true g 7 t) (all-faults (word_format g).fields (word_format g).says 256 bs k 2 l b (omega arith) i e))))
-    (λ t q. subst (Fault-at bs k) (err-same {A = ℕ × Word} (k + 1) j q) (at-kind l (ltb-false g 7 t))))
-    (λ l q. subst (Fault-at bs k) (err-same {A = ℕ × Word} (length bs) j q) (at-end l))
+    (λ t q. subst (FaultAt bs k) (err-same {A = ℕ × Word} (k + 1) j q) (at-kind l (ltb-false g 7 t))))
+    (λ l q. subst (FaultAt bs k) (err-same {A = ℕ × Word} (length bs) j q) (at-end l))
   where
     -- the bytes from k on up to n, with the two bytes in front
     front : (n : ℕ) → k + 2 ≤ length bs → k + 2 ≤ n → take (n - k) (drop k bs) ≡ get_or bs k 0 ∷ get_or bs (k + 1) 0 ∷ take (n - (k + 2)) (drop (k + 2) bs)
     front n l m = past bs (get_or bs k 0 ∷ get_or bs (k + 1) 0 ∷ []) k (k + 2) n refl (two-front bs k l) m
 
-    at-end : length bs < k + 2 → Fault-at bs k (length bs)
+    at-end : length bs < k + 2 → FaultAt bs k (length bs)
     at-end l =
         record {
           from = h;
@@ -173,7 +173,7 @@ word-faults bs k b h j =
           here = λ m _ _ _. omega arith;
         }
 
-    at-kind : k + 2 ≤ length bs → 7 ≤ get_or bs (k + 1) 0 → Fault-at bs k (k + 1)
+    at-kind : k + 2 ≤ length bs → 7 ≤ get_or bs (k + 1) 0 → FaultAt bs k (k + 1)
     at-kind l high =
         let c = get_or bs k 0 in
         let g = get_or bs (k + 1) 0 in
@@ -195,7 +195,7 @@ word-faults bs k b h j =
               omega (arith, v.low);
         }
 
-    inside : (i : ℕ) → k + 2 ≤ length bs → get_or bs (k + 1) 0 < 7 → All-bad 256 (word_format (get_or bs (k + 1) 0)).fields bs k 2 i → Fault-at bs k i
+    inside : (i : ℕ) → k + 2 ≤ length bs → get_or bs (k + 1) 0 < 7 → AllBad 256 (word_format (get_or bs (k + 1) 0)).fields bs k 2 i → FaultAt bs k i
     inside i l low d =
         let c = get_or bs k 0 in
         let g = get_or bs (k + 1) 0 in
@@ -220,7 +220,7 @@ word-faults bs k b h j =
               ap (λ n. take n (drop k bs)) z1 ∙ front (suc i) l (omega (arith, d.from)) ∙ ap (λ n. c ∷ g ∷ take n (drop (k + 2) bs)) z2 in
               let e1 : c ∷ g ∷ (rest ++ w.0) ≡ m.0 ∷ v.q ∷ bytes (word_format v.q).fields v.values = sym (ap (λ t. t ++ w.0) f) ∙ w.1 ∙ v.spelt in
               let same : g ≡ v.q = heads g v.q (rest ++ w.0) (bytes (word_format v.q).fields v.values) (ap (drop 1) e1) in
-              let P : ℕ → Type 0 = λ q. All-bad 256 (word_format q).fields bs k 2 i in
+              let P : ℕ → Type 0 = λ q. AllBad 256 (word_format q).fields bs k 2 i in
               let tails : rest ++ w.0 ≡ bytes (word_format v.q).fields v.values = ap (drop 2) e1 in
               (subst P same d).here n v.values w.0 [] v.fits (tails ∙ sym (append-nil (bytes (word_format v.q).fields v.values)));
         }

@@ -17,7 +17,7 @@ use Rattle.region.proofs.Wording.{covers_one}
 use Rattle.region.proofs.Theorems.{box-is}
 use Rattle.region.proofs.Measuring.{each-proper}
 use Rattle.region.proofs.Shifting.{canonical-of, shifts_of}
-use Rattle.region.proofs.Sides.{lines-list, lines_more, All-on, on-first}
+use Rattle.region.proofs.Sides.{lines-list, lines_more, AllOn, on-first}
 
 -- what the boxes of one box cover
 pub one_covers : (r : Rect) (i j : ℕ) → covers (one r) i j ≡ in_rect r i j
@@ -46,9 +46,9 @@ one-region r h k = by (ltb r.left r.right) (ltb r.top r.below) refl refl
     by false q e f = nothing
 
 -- the boxes of a set that lies in a box lie in it
-abbrev Each-in : Rect → List Rect → Type 0
-Each-in P [] = Unit {0}
-Each-in P (b ∷ bs) = ((P.left ≤ b.left) × (b.right ≤ P.right) × (P.top ≤ b.top) × (b.below ≤ P.below)) × Each-in P bs
+abbrev EachIn : Rect → List Rect → Type 0
+EachIn P [] = Unit {0}
+EachIn P (b ∷ bs) = ((P.left ≤ b.left) × (b.right ≤ P.right) × (P.top ≤ b.top) × (b.below ≤ P.below)) × EachIn P bs
 
 in_parts : (P : Rect) (i j : ℕ) → in_rect P i j ≡ true → (P.left ≤ i) × (i < P.right) × (P.top ≤ j) × (j < P.below)
 in_parts P i j h = (grind (arith, nat_tests), grind (arith, nat_tests), grind (arith, nat_tests), grind (arith, nat_tests))
@@ -56,7 +56,7 @@ in_parts P i j h = (grind (arith, nat_tests), grind (arith, nat_tests), grind (a
 is-in : (a b c d i j : ℕ) → a ≤ i → i < b → c ≤ j → j < d → ((leb a i && ltb i b) && (leb c j && ltb j d)) ≡ true
 is-in a b c d i j h k l m = grind (arith, nat_tests)
 
-each_in : (P : Rect) (bs : List Rect) → EachProper bs → ((i j : ℕ) → covers bs i j ≡ true → in_rect P i j ≡ true) → Each-in P bs
+each_in : (P : Rect) (bs : List Rect) → EachProper bs → ((i j : ℕ) → covers bs i j ≡ true → in_rect P i j ≡ true) → EachIn P bs
 each_in P [] h k = tt
 each_in P (b ∷ bs) h k =
     let w = h.0.wide in
@@ -137,7 +137,7 @@ stays-made r l d u across down A out n m = go (rects (take (2 * n) out)) (each-p
     lies : (i j : ℕ) → covers (rects (take (2 * n) out)) i j ≡ true → in_rect P i j ≡ true
     lies i j e = sym (one_covers P i j) ∙ right_of (covers A i j) (covers (one P) i j) (sym (m.dots i j) ∙ e)
 
-    go : (bs : List Rect) → EachProper bs → Each-in P bs → Stays r l d u bs
+    go : (bs : List Rect) → EachProper bs → EachIn P bs → Stays r l d u bs
     go [] h k = tt
     go (b ∷ bs) h k =
         let w = h.0.wide in
@@ -234,6 +234,6 @@ moved-room P A room X Y l h =
           subst (λ (z : ℕ). z ≤ 2 * room) (sym (ap₂ (λ (u v : ℕ). u * v) e f)) h;
     }
   where
-    on : (z : Bool) → All-on (P.left ∷ P.right ∷ X) (P.top ∷ P.below ∷ Y) (cond z (P ∷ []) [])
+    on : (z : Bool) → AllOn (P.left ∷ P.right ∷ X) (P.top ∷ P.below ∷ Y) (cond z (P ∷ []) [])
     on true = (on-first P X Y, tt)
     on false = tt

@@ -27,9 +27,9 @@ module _ (r l d u : ℕ) where
   changes-of [] = []
   changes-of (c ∷ cs) = record { at = c.at + d - u; row = across-of c.row } ∷ changes-of cs
 
-  abbrev In-changes : List Change → Type 0
-  In-changes [] = Unit {0}
-  In-changes (c ∷ cs) = ((u ≤ c.at + d) × (c.at + d ≤ 4096 + u)) × In c.row × In-changes cs
+  abbrev InChanges : List Change → Type 0
+  InChanges [] = Unit {0}
+  InChanges (c ∷ cs) = ((u ≤ c.at + d) × (c.at + d ≤ 4096 + u)) × In c.row × InChanges cs
 
   between-of : (low : ℕ) (es : List ℕ) (high lo : ℕ) → Between low es high → In es → lo + l ≤ low + r → lo ≤ 4097 → Between lo (across-of es) 4097
   between-of low [] high lo h k m n = n
@@ -54,7 +54,7 @@ module _ (r l d u : ℕ) where
   row_of [] h k = (omega arith, refl)
   row_of (e ∷ es) h k = ((omega arith, between-of (suc e) es 4097 (suc (e + r - l)) h.0.1 k.1 (omega arith) (omega arith)), odd-of (e ∷ es) ∙ h.1)
 
-  bands-of : (low : ℕ) (row : List ℕ) (cs : List Change) (high lo : ℕ) → Bands low row cs high → In row → In-changes cs → lo + u ≤ low + d → lo ≤ 4097 → Bands lo (across-of row) (changes-of cs) 4097
+  bands-of : (low : ℕ) (row : List ℕ) (cs : List Change) (high lo : ℕ) → Bands low row cs high → In row → InChanges cs → lo + u ≤ low + d → lo ≤ 4097 → Bands lo (across-of row) (changes-of cs) 4097
   bands-of low row [] high lo h i k m n = n
   bands-of low row (c ∷ cs) high lo h i k m n =
       (omega arith, (λ q. h.1 (same_of c.row row k.1 i q)), row_of c.row h.2 k.1, bands-of (suc c.at) c.row cs high (suc (c.at + d - u)) h.3 k.1 k.2 (omega arith) (omega arith))
@@ -109,7 +109,7 @@ module _ (r l d u : ℕ) where
   at_in t low (x ∷ []) at crow cs high e m n q o p h z a b = absurd (true≢false o)
   at_in t low (x ∷ y ∷ es) at crow cs high e m n q o p h z a b = (omega arith, a.0.3)
 
-  in-bands : (t low : ℕ) (row : List ℕ) (cs : List Change) (high e : ℕ) → t ≤ low → Bands low row cs high → Row 4096 row → last_row row cs ≡ [] → Stays r l d u (flat t row cs e) → In r l d u row × In-changes r l d u cs
+  in-bands : (t low : ℕ) (row : List ℕ) (cs : List Change) (high e : ℕ) → t ≤ low → Bands low row cs high → Row 4096 row → last_row row cs ≡ [] → Stays r l d u (flat t row cs e) → In r l d u row × InChanges r l d u cs
   in-bands t low row [] high e m h k z s = (subst (In r l d u) (sym z) tt, tt)
   in-bands t low row (c ∷ cs) high e m h k z s =
       let A = stays-left r l d u (boxes t c.at row) (flat c.at c.row cs e) s in
@@ -117,7 +117,7 @@ module _ (r l d u : ℕ) where
       let ih = in-bands c.at (suc c.at) c.row cs high e (omega arith) h.3 h.2 z B in
       (in_row r l d u t c.at 0 row 4097 k.0 k.1 A, (at_in t low row c.at c.row cs high e m h.0 h.1 k.1 h.2.1 h.3 z A B, ih.0, ih.1))
 
-  good_of : (cs : List Change) → Region 4096 cs → In-changes r l d u cs → Region 4096 (changes-of r l d u cs)
+  good_of : (cs : List Change) → Region 4096 cs → InChanges r l d u cs → Region 4096 (changes-of r l d u cs)
   good_of [] g k = (omega arith, refl)
   good_of (c ∷ cs) g k = (
     (
@@ -144,7 +144,7 @@ module _ (r l d u : ℕ) where
             ∙ (flat-begin (0 + d - u) 0 (changes-of r l d u k.bands) (4096 + d - u) ∙ flat-end 0 [] (changes-of r l d u k.bands) (4096 + d - u) 4096 g.1));
       }
     where
-      ins : In-changes r l d u k.bands
+      ins : InChanges r l d u k.bands
       ins = (in-bands 0 0 [] k.bands 4097 4096 (omega arith) k.good.0 (omega arith, refl) k.good.1 (subst (Stays r l d u) k.are s)).1
 
       g : Region 4096 (changes-of r l d u k.bands)

@@ -21,14 +21,14 @@ length-sides (r ∷ rs) = let e = length-sides rs in omega arith
 abbrev pub On : List ℕ → List ℕ → Rect → Type 0
 On X Y r = (among X r.left ≡ true) × (among X r.right ≡ true) × (among Y r.top ≡ true) × (among Y r.below ≡ true)
 
-abbrev pub All-on : List ℕ → List ℕ → List Rect → Type 0
-All-on X Y [] = Unit {0}
-All-on X Y (r ∷ rs) = On X Y r × All-on X Y rs
+abbrev pub AllOn : List ℕ → List ℕ → List Rect → Type 0
+AllOn X Y [] = Unit {0}
+AllOn X Y (r ∷ rs) = On X Y r × AllOn X Y rs
 
 more : (x : ℕ) (X : List ℕ) (i : ℕ) → among X i ≡ true → among (x ∷ X) i ≡ true
 more x X i h = or_right (eqb x i) (among X i) h
 
-on-more : (a b c d : ℕ) (X Y : List ℕ) (rs : List Rect) → All-on X Y rs → All-on (a ∷ b ∷ X) (c ∷ d ∷ Y) rs
+on-more : (a b c d : ℕ) (X Y : List ℕ) (rs : List Rect) → AllOn X Y rs → AllOn (a ∷ b ∷ X) (c ∷ d ∷ Y) rs
 on-more a b c d X Y [] h = tt
 on-more a b c d X Y (r ∷ rs) h = (
   (more a (b ∷ X) r.left (more b X r.left h.0.0), more a (b ∷ X) r.right (more b X r.right h.0.1), more c (d ∷ Y) r.top (more d Y r.top h.0.2), more c (d ∷ Y) r.below (more d Y r.below h.0.3)),
@@ -43,16 +43,16 @@ pub on-first : (r : Rect) (X Y : List ℕ) → On (r.left ∷ r.right ∷ X) (r.
 on-first r X Y =
     (here r.left (r.right ∷ X), more r.left (r.right ∷ X) r.right (here r.right X), here r.top (r.below ∷ Y), more r.top (r.below ∷ Y) r.below (here r.below Y))
 
-pub on-own : (rs : List Rect) → All-on (edges rs) (sides rs) rs
+pub on-own : (rs : List Rect) → AllOn (edges rs) (sides rs) rs
 on-own [] = tt
 on-own (r ∷ rs) = (on-first r (edges rs) (sides rs), on-more r.left r.right r.top r.below (edges rs) (sides rs) rs (on-own rs))
 
-pub on-take : (X Y : List ℕ) (rs : List Rect) (i : ℕ) → All-on X Y rs → All-on X Y (take i rs)
+pub on-take : (X Y : List ℕ) (rs : List Rect) (i : ℕ) → AllOn X Y rs → AllOn X Y (take i rs)
 on-take X Y rs zero h = tt
 on-take X Y [] (suc i) h = tt
 on-take X Y (r ∷ rs) (suc i) h = (h.0, on-take X Y rs i h.1)
 
-pub on-at : (X Y : List ℕ) (rs : List Rect) (i : ℕ) → i < length rs → All-on X Y rs → All-on X Y (get_or rs i blank ∷ [])
+pub on-at : (X Y : List ℕ) (rs : List Rect) (i : ℕ) → i < length rs → AllOn X Y rs → AllOn X Y (get_or rs i blank ∷ [])
 on-at X Y [] i l h = absurd (omega arith)
 on-at X Y (r ∷ rs) zero l h = (h.0, tt)
 on-at X Y (r ∷ rs) (suc i) l h = on-at X Y rs i (omega arith) h.1
@@ -95,7 +95,7 @@ lines_cons X Y r rs h rest = record { columns = columns; rows = rows }
     rows i (suc j) u =
         ap₂ (λ p q. ((leb r.left i && ltb i r.right) && p) || q) (stretch-step r.top r.below j (apart Y r.top (suc j) h.2 u) (apart Y r.below (suc j) h.3 u)) (rest.rows i (suc j) u)
 
-pub lines-list : (X Y : List ℕ) (rs : List Rect) → All-on X Y rs → Lines X Y rs
+pub lines-list : (X Y : List ℕ) (rs : List Rect) → AllOn X Y rs → Lines X Y rs
 lines-list X Y [] h = record { columns = λ j. elim [ zero ↦ λ _. refl | suc i ↦ λ _. refl ]; rows = λ i. elim [ zero ↦ λ _. refl | suc j ↦ λ _. refl ] }
 lines-list X Y (r ∷ rs) h = lines_cons X Y r rs h.0 (lines-list X Y rs h.1)
 

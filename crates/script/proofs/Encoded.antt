@@ -179,10 +179,10 @@ words-few (f ∷ fs) tail (w ∷ ws) h =
     nothing (Some x) = refl
 
 -- A row: each word gives the bytes of a number, and there are as many numbers as words.
-abbrev Row-word : Field → ℕ → Type 0
-Row-word f most = (w : List ℕ) → word_bytes f w ≡ option_map (digits (row-width f)) (plain_number most w)
+abbrev RowWord : Field → ℕ → Type 0
+RowWord f most = (w : List ℕ) → word_bytes f w ≡ option_map (digits (row-width f)) (plain_number most w)
 
-all_said : (f : Field) (most : ℕ) → Row-word f most → (ws : List (List ℕ)) → all_bytes f ws ≡ option_map (all_digits (row-width f)) (each_number most ws)
+all_said : (f : Field) (most : ℕ) → RowWord f most → (ws : List (List ℕ)) → all_bytes f ws ≡ option_map (all_digits (row-width f)) (each_number most ws)
 unfolding all_digits
 all_said f most h [] = refl
 all_said f most h (w ∷ ws) = rw (h w, all_said f most h ws) (by (plain_number most w) (each_number most ws))
@@ -202,7 +202,7 @@ as_many most (w ∷ ws) = by (plain_number most w) (each_number most ws) (as_man
     by (Some v) None h = tt
     by (Some v) (Some vs) h = ap (λ n. suc n) h
 
-row-said : (f : Field) (most : ℕ) → Row-word f most → 256 ^ row-width f - 1 ≡ most → (ws : List (List ℕ)) → say-bytes (fields.row (row-width f) ∷ []) ws ≡ row_bytes f ws
+row-said : (f : Field) (most : ℕ) → RowWord f most → 256 ^ row-width f - 1 ≡ most → (ws : List (List ℕ)) → say-bytes (fields.row (row-width f) ∷ []) ws ≡ row_bytes f ws
 unfolding row_numbers row_bytes
 row-said f most h e ws = rw (e, all_said f most h ws) (by (ltb (length ws) 65536) (each_number most ws) (as_many most ws))
   where

@@ -40,20 +40,20 @@ pub code-cut : (bs xs ys : List ℕ) → bs ≡ xs ++ (35 ∷ ys) → Lacks xs �
 code-cut bs xs ys e h = code-front xs ys h ∙ ap code_of (sym e)
 
 -- Words: those that were seen come before the others.
-abbrev pub Before-words : List ℕ → List ℕ → List (List ℕ) → Type 0
-Before-words text rest seen = (ws : List (List ℕ)) → Words rest ws → Words text (seen ++ ws)
+abbrev pub BeforeWords : List ℕ → List ℕ → List (List ℕ) → Type 0
+BeforeWords text rest seen = (ws : List (List ℕ)) → Words rest ws → Words text (seen ++ ws)
 
 -- what `split_whitespace` says of an item
 pub first_of : (bs w rest : List ℕ) → (gap : List ℕ) × (bs ≡ gap ++ (w ++ rest)) × (0 < length w) × NoCharPasses is_not_whitespace gap × NoCharPasses is_whitespace w × ((more : List ℕ) × EmptyOrStartsWithPassing is_whitespace rest more) → FirstWord bs w rest
 first_of bs w rest cut = record { gap = cut.0; cut = cut.1; some = cut.2; blank = cut.3; solid = cut.4; ends = cut.5 }
 
 pub word_more : (text rest next : List ℕ) (seen : List (Bor (List ℕ))) (w : Bor (List ℕ)) (new : List (Bor (List ℕ)))
-    → Before-words text rest (texts seen) → FirstWord rest w.now next → new ≡ seen ++ (w ∷ []) → Before-words text next (texts new)
+    → BeforeWords text rest (texts seen) → FirstWord rest w.now next → new ≡ seen ++ (w ∷ []) → BeforeWords text next (texts new)
 word_more text rest next seen w new h first e = λ ws k.
     let m : texts new ≡ texts seen ++ (w.now ∷ []) = ap texts e ∙ map-append (λ (x : Bor (List ℕ)). x.now) seen (w ∷ []) in
     subst (Words text) (sym (append_assoc (texts seen) (w.now ∷ []) ws) ∙ ap (λ l. l ++ ws) (sym m)) (h (w.now ∷ ws) (next, first, k))
 
-pub word_end : (text rest : List ℕ) (seen : List (List ℕ)) → Before-words text rest seen → NoCharPasses is_not_whitespace rest → Words text seen
+pub word_end : (text rest : List ℕ) (seen : List (List ℕ)) → BeforeWords text rest seen → NoCharPasses is_not_whitespace rest → Words text seen
 word_end text rest seen h none = subst (Words text) (append-nil seen) (h [] none)
 
 -- The words of a line.

@@ -14,14 +14,14 @@ use Rattle.server.proofs.Owning.{told_bytes-none, own-none, own-bytes-mine, own-
 use Rattle.server.proofs.Walking.{Walked, walked_start, walked_more, walked-fault, walked_end, walked-front}
 
 -- the bytes of a word that is read
-pub record Word-at (bs : List ℕ) (k : ℕ) (m : ℕ × Word) (to : ℕ) : Type 0 where
+pub record WordAt (bs : List ℕ) (k : ℕ) (m : ℕ × Word) (to : ℕ) : Type 0 where
   pub told : Told m
   pub after : k < to
   pub within : to ≤ length bs
   pub spelt : take (to - k) (drop k bs) ≡ encode_word m.0 m.1
   pub size : length (encode_word m.0 m.1) ≡ to - k
 
-pub word_at : (bs : List ℕ) (k : ℕ) (m : ℕ × Word) (to : ℕ) → Bytes bs → read_told bs k ≡ Ok (m, to) → Word-at bs k m to
+pub word_at : (bs : List ℕ) (k : ℕ) (m : ℕ × Word) (to : ℕ) → Bytes bs → read_told bs k ≡ Ok (m, to) → WordAt bs k m to
 unfolding ReadsWordsOnly
 word_at bs k m to b e =
     let w = reads-words-only bs k m to b e in
