@@ -3,7 +3,7 @@ ghost use Rattle.std.specs.Prelude.{◌≡◌, ℕ, ◌+◌, ◌-◌, ◌*◌, �
 ghost use Rattle.std.specs.Int.Signed.{mag};
 ghost use Rattle.model.specs.System.{front_at};
 ghost use Rattle.model.specs.Grid.{sides};
-ghost use Rattle.model.specs.Grid.{cell as Cell-at};
+ghost use Rattle.model.specs.Grid.{cell as cell_at};
 ghost use Rattle.layout.specs.State.{desk_of};
 ghost use Rattle.damage.specs.Encode.{Sent};
 ghost use Rattle.damage.specs.Lines.{lines_of};
@@ -118,8 +118,8 @@ fn send_cell(
     requires low { (cell.right ≤ 32768) × (cell.below ≤ 32768) }
     requires front { OneFront after.now pictures.now cell }
     requires lent { Lent after.now (length pictures.now) }
-    requires room { at + length (words_of after.now pictures.now (Cell-at (damaged hurt before.now after.now pictures.now) cell.left cell.right cell.top cell.below)) ≤ length sent.old }
-    ensures { Sent at result (words_of after.now pictures.now (Cell-at (damaged hurt before.now after.now pictures.now) cell.left cell.right cell.top cell.below)) sent.old sent.new }
+    requires room { at + length (words_of after.now pictures.now (cell_at (damaged hurt before.now after.now pictures.now) cell.left cell.right cell.top cell.below)) ≤ length sent.old }
+    ensures { Sent at result (words_of after.now pictures.now (cell_at (damaged hurt before.now after.now pictures.now) cell.left cell.right cell.top cell.below)) sent.old sent.new }
 {
     if cell.is_empty() {
         return at;

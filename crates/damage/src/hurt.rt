@@ -1,8 +1,8 @@
 // Which dots an event damages.
 ghost use Rattle.std.specs.Prelude.{◌≡◌, ℕ, ◌+◌, ◌<◌, true, false, ◌&&◌, List, pos, ◌+ℤ◌, Some, None};
-ghost use Rattle.model.specs.Desk.{window as window-of};
+ghost use Rattle.model.specs.Desk.{window as window_of};
 ghost use Rattle.model.specs.System.{front_at, turned, same_place};
-ghost use Rattle.model.specs.System.{taken as Taken-of};
+ghost use Rattle.model.specs.System.{taken as taken_of};
 ghost use Rattle.protocol.specs.Meaning.{meaning};
 ghost use Rattle.stack.specs.View.{view};
 ghost use Rattle.layout.specs.Sizes.{sizes_of};
@@ -84,7 +84,7 @@ fn placed(slot: Option<Window>, x: u16, y: u16, wide: u16, high: u16) -> Placed
 fn about(before: &State, how: How, window: u8, x: u16, y: u16, wide: u16, high: u16) -> Hurt
     ensures how { result.how ≡ how }
     ensures window { result.window ≡ window }
-    ensures area { (p : List ℕ) → Placing (window-of (desk_of before.now p) window) x y wide high result.area }
+    ensures area { (p : List ℕ) → Placing (window_of (desk_of before.now p) window) x y wide high result.area }
 {
     Hurt {
         how,
@@ -105,7 +105,7 @@ fn lies_at(slot: Option<Window>, x: i16, y: i16) -> bool
 
 // What the event damages, where it damages anything.
 pub(crate) fn decide(e: Event, taken: bool, before: &State) -> Option<Hurt>
-    ensures { (z : Sizes) (bs p : List ℕ) → taken ≡ Taken-of (sizes_of z) (desk_of before.now p) (meaning bs e) → Decides (sizes_of z) (desk_of before.now p) (meaning bs e) result }
+    ensures { (z : Sizes) (bs p : List ℕ) → taken ≡ taken_of (sizes_of z) (desk_of before.now p) (meaning bs e) → Decides (sizes_of z) (desk_of before.now p) (meaning bs e) result }
 {
     if !taken {
         return None;

@@ -17,7 +17,7 @@ use Rattle.layout.specs.Sizes.{sizes_of}
 use Rattle.layout.specs.State.{desk_of, Good}
 use Rattle.layout.specs.declared.sizes.Sizes.{Sizes}
 use Rattle.layout.specs.declared.state.State.{State}
-use Rattle.desktop.specs.Does.{Carried, answered}
+use Rattle.desktop.specs.Does.{CarriedOut, answered}
 use Rattle.desktop.proofs.Carrying.{carried, picked}
 
 -- the state with other windows and another order
@@ -69,19 +69,19 @@ module _ (z : Sizes) (s : State) (t : Stack) (p : List ℕ) (g : Good (sizes_of 
 
   pub moved : (c n : ℕ) (x y x' y' : ℤ) (b : Bool) → b ≡ mine (desk_of s p) c n →
       windows_of t p ≡ pick (mine (desk_of s p) c n) (set (windows_of s.stack p) n (placed (window (desk_of s p) n) c x y)) (windows_of s.stack p) →
-      slots_of t ≡ pick b (set (slots_of s.stack) n (put_at x' y' (get_or (slots_of s.stack) n None))) (slots_of s.stack) → Carried (sizes_of z) (move c n x y) s p (with-stack s t) p (answered c b)
+      slots_of t ≡ pick b (set (slots_of s.stack) n (put_at x' y' (get_or (slots_of s.stack) n None))) (slots_of s.stack) → CarriedOut (sizes_of z) (move c n x y) s p (with-stack s t) p (answered c b)
   unfolding does
   moved c n x y x' y' b a e f =
-      subst (λ v. Carried (sizes_of z) (move c n x y) s p (with-stack s t) p (answered c v)) (sym a)
+      subst (λ v. CarriedOut (sizes_of z) (move c n x y) s p (with-stack s t) p (answered c v)) (sym a)
       (picked z (move c n x y) s (with-stack s t) p p c (mine (desk_of s p) c n) (with_window (desk_of s p) n (placed (window (desk_of s p) n) c x y)) g refl l
       (changed-packed b n (put_at x' y') (begins-at x' y') (size-at x' y') f) refl (changed-desk c n _ e))
 
   pub shown : (c n : ℕ) (v : Bool) (b : Bool) → b ≡ mine (desk_of s p) c n →
       windows_of t p ≡ pick (mine (desk_of s p) c n) (set (windows_of s.stack p) n (shown_as (window (desk_of s p) n) c v)) (windows_of s.stack p) →
-      slots_of t ≡ pick b (set (slots_of s.stack) n (put_on v (get_or (slots_of s.stack) n None))) (slots_of s.stack) → Carried (sizes_of z) (show c n v) s p (with-stack s t) p (answered c b)
+      slots_of t ≡ pick b (set (slots_of s.stack) n (put_on v (get_or (slots_of s.stack) n None))) (slots_of s.stack) → CarriedOut (sizes_of z) (show c n v) s p (with-stack s t) p (answered c b)
   unfolding does
   shown c n v b a e f =
-      subst (λ u. Carried (sizes_of z) (show c n v) s p (with-stack s t) p (answered c u)) (sym a)
+      subst (λ u. CarriedOut (sizes_of z) (show c n v) s p (with-stack s t) p (answered c u)) (sym a)
       (picked z (show c n v) s (with-stack s t) p p c (mine (desk_of s p) c n) (with_window (desk_of s p) n (shown_as (window (desk_of s p) n) c v)) g refl l
       (changed-packed b n (put_on v) (begins-on v) (size-on v) f) refl (changed-desk c n _ e))
 
@@ -103,7 +103,7 @@ raise-room z s p c n g m =
 
 pub raised : (z : Sizes) (s : State) (t : Stack) (p : List ℕ) (c n : ℕ) (b : Bool) → Good (sizes_of z) s (length p) → mine (desk_of s p) c n ≡ true → slots_of t ≡ slots_of s.stack → t.limit ≡ s.stack.limit →
     b ≡ ltb (length (without n (order_of s.stack))) 255 → order_of t ≡ pick b (without n (order_of s.stack) ++ n ∷ []) (order_of s.stack) →
-    Carried (sizes_of z) (raise c n) s p (with-stack s t) p (answered c true)
+    CarriedOut (sizes_of z) (raise c n) s p (with-stack s t) p (answered c true)
 unfolding does with_order
 raised z s t p c n b g m e l a o =
     let r : b ≡ true = a ∙ lt-ltb _ _ (raise-room z s p c n g m) in

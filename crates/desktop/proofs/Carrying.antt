@@ -17,7 +17,7 @@ use Rattle.layout.specs.State.{desk_of, Good}
 use Rattle.layout.specs.declared.sizes.Sizes.{Sizes}
 use Rattle.layout.specs.declared.state.State.{State}
 use Rattle.stack.specs.declared.state.Window as table
-use Rattle.desktop.specs.Does.{Carried, told_of, told_had, answered}
+use Rattle.desktop.specs.Does.{CarriedOut, told_of, told_had, answered}
 use Rattle.desktop.specs.declared.told.Told.{Told}
 
 -- a desk is sound with any pictures, if it is with some
@@ -78,36 +78,38 @@ does-is z d paste = refl
 -- what the desk does is done, the windows are as many and their pictures packed: then the event is carried out
 pub carried-to : (z : Sizes) (e : Event) (s s' : State) (p p' : List ℕ) (r : Option Told) → told_had s.clip.bytes r ≡ true → Good (sizes_of z) s (length p) → length p' ≡ length p → s'.stack.limit ≡ s.stack.limit →
     Packed 0 (slots_of s'.stack) → desk_of s' p' ≡ (does (sizes_of z) (desk_of s p) e).0 → told_of s.clip.bytes r ≡ (does (sizes_of z) (desk_of s p) e).1 →
-    (taken (sizes_of z) (desk_of s p) e ≡ false → p' ≡ p) → Carried (sizes_of z) e s p s' p' r
+    (taken (sizes_of z) (desk_of s p) e ≡ false → p' ≡ p) → CarriedOut (sizes_of z) e s p s' p' r
 carried-to z e s s' p p' r b g l m k d t f =
     let q : desk_of s' p' ≡ (after (sizes_of z) (desk_of s p) e).0 = d ∙ ap (λ (o : Desk × List (ℕ × Word)). o.0) (sym (does-is z (desk_of s p) e)) in
     record {
-      desk = q;
-      told = t ∙ ap (λ (o : Desk × List (ℕ × Word)). o.1) (sym (does-is z (desk_of s p) e));
-      had = b;
-      good = record {
-        sizes = g.sizes;
-        limit = m ∙ g.limit;
-        packed = k;
-        room = subst (λ n. z.dots ≤ n) (sym l) g.room;
-        sound = λ a. sound-any (sizes_of z) s' p' a (subst (Sound (sizes_of z)) (sym q) (after-sound (sizes_of z) (desk_of s p) e (g.sound p)));
+      carried = record {
+        desk = q;
+        told = t ∙ ap (λ (o : Desk × List (ℕ × Word)). o.1) (sym (does-is z (desk_of s p) e));
+        good = record {
+          sizes = g.sizes;
+          limit = m ∙ g.limit;
+          packed = k;
+          room = subst (λ n. z.dots ≤ n) (sym l) g.room;
+          sound = λ a. sound-any (sizes_of z) s' p' a (subst (Sound (sizes_of z)) (sym q) (after-sound (sizes_of z) (desk_of s p) e (g.sound p)));
+        };
+        still = f;
       };
-      still = f;
+      had = b;
     }
 
 -- with the pictures as they were
 pub carried : (z : Sizes) (e : Event) (s s' : State) (p p' : List ℕ) (r : Option Told) → told_had s.clip.bytes r ≡ true → Good (sizes_of z) s (length p) → p' ≡ p → s'.stack.limit ≡ s.stack.limit →
-    Packed 0 (slots_of s'.stack) → desk_of s' p' ≡ (does (sizes_of z) (desk_of s p) e).0 → told_of s.clip.bytes r ≡ (does (sizes_of z) (desk_of s p) e).1 → Carried (sizes_of z) e s p s' p' r
+    Packed 0 (slots_of s'.stack) → desk_of s' p' ≡ (does (sizes_of z) (desk_of s p) e).0 → told_of s.clip.bytes r ≡ (does (sizes_of z) (desk_of s p) e).1 → CarriedOut (sizes_of z) e s p s' p' r
 carried z e s s' p p' r b g l m k d t = carried-to z e s s' p p' r b g (ap length l) m k d t (λ _. l)
 
 -- a request that is refused leaves all as it was
-pub refusal : (z : Sizes) (e : Event) (s : State) (p : List ℕ) (c : ℕ) → Good (sizes_of z) s (length p) → taken (sizes_of z) (desk_of s p) e ≡ false → (c, no) ∷ [] ≡ sender e → Carried (sizes_of z) e s p s p (answered c false)
+pub refusal : (z : Sizes) (e : Event) (s : State) (p : List ℕ) (c : ℕ) → Good (sizes_of z) s (length p) → taken (sizes_of z) (desk_of s p) e ≡ false → (c, no) ∷ [] ≡ sender e → CarriedOut (sizes_of z) e s p s p (answered c false)
 refusal z e s p c g f t =
     carried z e s s p p (answered c false) refl g refl refl g.packed (sym (refused (sizes_of z) (desk_of s p) e f)) (t ∙ sym (refused-told (sizes_of z) (desk_of s p) e f))
 
 -- a request that is taken or not
 pub picked : (z : Sizes) (e : Event) (s s' : State) (p p' : List ℕ) (c : ℕ) (b : Bool) (d : Desk) → Good (sizes_of z) s (length p) → p' ≡ p → s'.stack.limit ≡ s.stack.limit →
     Packed 0 (slots_of s'.stack) → does (sizes_of z) (desk_of s p) e ≡ pick b (d, (c, done) ∷ []) (desk_of s p, (c, no) ∷ []) → desk_of s' p' ≡ pick b d (desk_of s p) →
-    Carried (sizes_of z) e s p s' p' (answered c b)
+    CarriedOut (sizes_of z) e s p s' p' (answered c b)
 picked z e s s' p p' c true d g l m k o q = carried z e s s' p p' (answered c true) refl g l m k (q ∙ ap (λ (r : Desk × List (ℕ × Word)). r.0) (sym o)) (ap (λ (r : Desk × List (ℕ × Word)). r.1) (sym o))
 picked z e s s' p p' c false d g l m k o q = carried z e s s' p p' (answered c false) refl g l m k (q ∙ ap (λ (r : Desk × List (ℕ × Word)). r.0) (sym o)) (ap (λ (r : Desk × List (ℕ × Word)). r.1) (sym o))

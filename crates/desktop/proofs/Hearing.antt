@@ -19,7 +19,7 @@ use Rattle.layout.specs.State.{desk_of, clip_in, Good}
 use Rattle.layout.specs.declared.sizes.Sizes.{Sizes}
 use Rattle.layout.specs.declared.state.State.{State}
 use Rattle.layout.specs.declared.state.Clipboard.{Clipboard}
-use Rattle.desktop.specs.Does.{Carried, answered}
+use Rattle.desktop.specs.Does.{CarriedOut, answered}
 use Rattle.desktop.specs.Person.{Known, HeardBy}
 use Rattle.desktop.proofs.Carrying.{carried}
 
@@ -83,47 +83,47 @@ unfolding told_place
 place-some p d x y m n w e v = sym (ap (told_place d x y) e ∙ ap (λ (u : desk.Window). (u.owner, at n (x -ℤ u.x) (y -ℤ u.y)) ∷ []) v)
 
 module _ (z : Sizes) (s : State) (p : List ℕ) (g : Good (sizes_of z) s (length p)) where
-  pub key-quiet : (k : ℕ) → numbered s.keys ≡ 0 → Carried (sizes_of z) (key k) s p s p None
+  pub key-quiet : (k : ℕ) → numbered s.keys ≡ 0 → CarriedOut (sizes_of z) (key k) s p s p None
   unfolding does
   key-quiet k e = carried z (key k) s s p p None refl g refl refl g.packed refl (key-none (desk_of s p) k (numbered s.keys) e)
 
-  pub key-told : (k n : ℕ) (w : Window) → numbered s.keys ≡ suc n → window (desk_of s p) n ≡ view p (Some w) → Carried (sizes_of z) (key k) s p s p (Some (record { program = w.owner; word = Typed n k }))
+  pub key-told : (k n : ℕ) (w : Window) → numbered s.keys ≡ suc n → window (desk_of s p) n ≡ view p (Some w) → CarriedOut (sizes_of z) (key k) s p s p (Some (record { program = w.owner; word = Typed n k }))
   unfolding does
   key-told k n w e v = carried z (key k) s s p p _ refl g refl refl g.packed refl (key-some p (desk_of s p) k (numbered s.keys) n w e v)
 
-  pub paste-quiet : numbered s.keys ≡ 0 → Carried (sizes_of z) paste s p s p None
+  pub paste-quiet : numbered s.keys ≡ 0 → CarriedOut (sizes_of z) paste s p s p None
   unfolding does
   paste-quiet e = carried z paste s s p p None refl g refl refl g.packed refl (clip-none (desk_of s p) (numbered s.keys) e)
 
-  pub paste-unowned : (n : ℕ) → numbered s.keys ≡ suc n → numbered s.clip.owner ≡ 0 → Carried (sizes_of z) paste s p s p None
+  pub paste-unowned : (n : ℕ) → numbered s.keys ≡ suc n → numbered s.clip.owner ≡ 0 → CarriedOut (sizes_of z) paste s p s p None
   unfolding does
   paste-unowned n e o = carried z paste s s p p None refl g refl refl g.packed refl (clip-unowned (desk_of s p) (numbered s.keys) n e o)
 
   pub paste-told : (n o : ℕ) (w : Window) (q : Part) → numbered s.keys ≡ suc n → window (desk_of s p) n ≡ view p (Some w) → numbered s.clip.owner ≡ suc o → part 1 s.clip.bytes q ≡ clip_in s → lies 1 s.clip.bytes q ≡ true →
-      Carried (sizes_of z) paste s p s p (Some (record { program = w.owner; word = Pasted n q }))
+      CarriedOut (sizes_of z) paste s p s p (Some (record { program = w.owner; word = Pasted n q }))
   unfolding does
   paste-told n o w q e v c l b = carried z paste s s p p _ b g refl refl g.packed refl (clip-some p (desk_of s p) (numbered s.keys) n o w _ e v c l)
 
   abbrev pub hands : Option ℕ → Option ℕ → State
   hands k h = record { stack = s.stack; x = s.x; y = s.y; keys = k; held = h; clip = s.clip }
 
-  pub down-quiet : front (desk_of s p) (order_of s.stack) s.x s.y ≡ 0 → Carried (sizes_of z) (press true) s p (hands None None) p None
+  pub down-quiet : front (desk_of s p) (order_of s.stack) s.x s.y ≡ 0 → CarriedOut (sizes_of z) (press true) s p (hands None None) p None
   unfolding does press_down with_hands
   down-quiet e =
       carried z (press true) s (hands None None) p p None refl g refl refl g.packed (ap (λ m. (press_down (desk_of s p) m).0) (sym e)) (ap (λ m. (press_down (desk_of s p) m).1) (sym e))
 
   pub down-told : (n : ℕ) (w : Window) → front (desk_of s p) (order_of s.stack) s.x s.y ≡ suc n → window (desk_of s p) n ≡ view p (Some w) →
-      Carried (sizes_of z) (press true) s p (hands (Some n) (Some n)) p (Some (record { program = w.owner; word = Pressed n true }))
+      CarriedOut (sizes_of z) (press true) s p (hands (Some n) (Some n)) p (Some (record { program = w.owner; word = Pressed n true }))
   unfolding does press_down with_hands
   down-told n w e v =
       carried z (press true) s (hands (Some n) (Some n)) p p _ refl g refl refl g.packed (ap (λ m. (press_down (desk_of s p) m).0) (sym e))
       (ap (λ (u : desk.Window). (u.owner, pressed n true) ∷ []) (sym v) ∙ ap (λ m. (press_down (desk_of s p) m).1) (sym e))
 
-  pub up-quiet : numbered s.held ≡ 0 → Carried (sizes_of z) (press false) s p s p None
+  pub up-quiet : numbered s.held ≡ 0 → CarriedOut (sizes_of z) (press false) s p s p None
   unfolding does press_up
   up-quiet e = carried z (press false) s s p p None refl g refl refl g.packed (ap (λ m. (press_up (desk_of s p) m).0) (sym e)) (ap (λ m. (press_up (desk_of s p) m).1) (sym e))
 
-  pub up-told : (n : ℕ) (w : Window) → numbered s.held ≡ suc n → window (desk_of s p) n ≡ view p (Some w) → Carried (sizes_of z) (press false) s p (hands s.keys None) p (Some (record { program = w.owner; word = Pressed n false }))
+  pub up-told : (n : ℕ) (w : Window) → numbered s.held ≡ suc n → window (desk_of s p) n ≡ view p (Some w) → CarriedOut (sizes_of z) (press false) s p (hands s.keys None) p (Some (record { program = w.owner; word = Pressed n false }))
   unfolding does press_up with_hands
   up-told n w e v =
       carried z (press false) s (hands s.keys None) p p _ refl g refl refl g.packed (ap (λ m. (press_up (desk_of s p) m).0) (sym e))
@@ -133,7 +133,7 @@ module _ (z : Sizes) (s : State) (p : List ℕ) (g : Good (sizes_of z) s (length
   placed x y = record { stack = s.stack; x = x; y = y; keys = s.keys; held = s.held; clip = s.clip }
 
   module _ (x y px py : ℤ) (ex : px ≡ clamp x z.wide) (ey : py ≡ clamp y z.high) where
-    pub point-quiet : pick (eqb (numbered s.held) 0) (front (desk_of s p) (order_of s.stack) px py) (numbered s.held) ≡ 0 → Carried (sizes_of z) (point x y) s p (placed px py) p None
+    pub point-quiet : pick (eqb (numbered s.held) 0) (front (desk_of s p) (order_of s.stack) px py) (numbered s.held) ≡ 0 → CarriedOut (sizes_of z) (point x y) s p (placed px py) p None
     unfolding does with_pointer
     point-quiet e =
         carried z (point x y) s (placed px py) p p None refl g refl refl g.packed (rw (ex, ey))
@@ -141,7 +141,7 @@ module _ (z : Sizes) (s : State) (p : List ℕ) (g : Good (sizes_of z) s (length
         (subst (λ b. [] ≡ told_place (desk_of s p) px b (listener (desk_of s p) px b)) ey (place_none (desk_of s p) px py _ e)))
 
     pub point-told : (n : ℕ) (w : Window) → pick (eqb (numbered s.held) 0) (front (desk_of s p) (order_of s.stack) px py) (numbered s.held) ≡ suc n → window (desk_of s p) n ≡ view p (Some w) →
-        (a b : ℤ) → a ≡ px -ℤ w.x → b ≡ py -ℤ w.y → Carried (sizes_of z) (point x y) s p (placed px py) p (Some (record { program = w.owner; word = At n a b }))
+        (a b : ℤ) → a ≡ px -ℤ w.x → b ≡ py -ℤ w.y → CarriedOut (sizes_of z) (point x y) s p (placed px py) p (Some (record { program = w.owner; word = At n a b }))
     unfolding does with_pointer
     point-told n w e v a b ea eb =
         carried z (point x y) s (placed px py) p p _ refl g refl refl g.packed (rw (ex, ey))
@@ -170,7 +170,7 @@ offer-yes p d c m n w l e v h k =
 
 pub offer-taken : (z : Sizes) (s : State) (p : List ℕ) (c n : ℕ) (w : Window) (l : List ℕ) (k : Clipboard) → Good (sizes_of z) s (length p) → numbered s.keys ≡ suc n → window (desk_of s p) n ≡ view p (Some w) →
     w.owner ≡ c → length l ≤ 4096 → k.owner ≡ Some c → take k.len k.bytes ≡ l →
-    Carried (sizes_of z) (offer c l) s p (record { stack = s.stack; x = s.x; y = s.y; keys = s.keys; held = s.held; clip = k }) p (answered c true)
+    CarriedOut (sizes_of z) (offer c l) s p (record { stack = s.stack; x = s.x; y = s.y; keys = s.keys; held = s.held; clip = k }) p (answered c true)
 unfolding does with_clip
 offer-taken z s p c n w l k g e v h len o b =
     carried z (offer c l) s _ p p (answered c true) refl g refl refl g.packed

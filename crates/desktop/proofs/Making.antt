@@ -17,7 +17,7 @@ use Rattle.layout.specs.declared.sizes.Sizes.{Sizes}
 use Rattle.layout.specs.declared.state.State.{State}
 use Rattle.protocol.specs.declared.types.Word.TheVariants.{Made}
 use Rattle.desktop.specs.declared.told.Told.{Told}
-use Rattle.desktop.specs.Does.{Carried, answered}
+use Rattle.desktop.specs.Does.{CarriedOut, answered}
 use Rattle.desktop.specs.Gaps.{Opened, Closed}
 use Rattle.desktop.specs.Windows.{makeable, start_of}
 use Rattle.desktop.proofs.Carrying.{carried-to}
@@ -60,7 +60,7 @@ pub made-carried : (z : Sizes) (s : State) (t : Stack) (p q : List ℕ) (c n wid
     slots_of t ≡ packed 0 (set (slots_of s.stack) n (Some (blank c x' y' wide high))) → t.limit ≡ s.stack.limit →
     b ≡ ltb (length (order_of s.stack)) 255 → order_of t ≡ pick b (order_of s.stack ++ n ∷ []) (order_of s.stack) →
     at ≡ start_of (get_or (slots_of t) n None) → size ≡ wide * high → (at ≤ used → used + size ≤ length p → Opened at size used p q) →
-    Carried (sizes_of z) (make c x y wide high) s p (with-stack s t) q (told-made c n)
+    CarriedOut (sizes_of z) (make c x y wide high) s p (with-stack s t) q (told-made c n)
 unfolding does with_order with_window taken
 made-carried z s t p q c n wide high used at size x y x' y' b ex ey g f e u m k' l a o v sz w =
     let k : slots_of t ≡ packed 0 (set (slots_of s.stack) n (Some (blank c x y wide high))) = k' ∙ ap (λ i. packed 0 (set (slots_of s.stack) n (Some (blank c i y' wide high)))) ex ∙ ap (λ i. packed 0 (set (slots_of s.stack) n (Some (blank c x i wide high)))) ey in
@@ -90,7 +90,7 @@ pub closed-carried : (z : Sizes) (s : State) (t : Stack) (p q : List ℕ) (c n u
     slots_of t ≡ packed 0 (set (slots_of s.stack) n None) → t.limit ≡ s.stack.limit → order_of t ≡ without n (order_of s.stack) →
     numbered keys ≡ pick (eqb (numbered s.keys) (suc n)) 0 (numbered s.keys) → numbered held ≡ pick (eqb (numbered s.held) (suc n)) 0 (numbered s.held) →
     size ≡ w.wide * w.high → (w.at + size ≤ used → used ≤ length p → Closed w.at size used p q) →
-    Carried (sizes_of z) (close c n) s p (record { stack = t; x = s.x; y = s.y; keys = keys; held = held; clip = s.clip }) q (answered c true)
+    CarriedOut (sizes_of z) (close c n) s p (record { stack = t; x = s.x; y = s.y; keys = keys; held = held; clip = s.clip }) q (answered c true)
 unfolding does with_hands with_order with_window taken
 closed-carried z s t p q c n used size w keys held g e m u k l o ks hs es h =
     let st : w.at ≡ ending n 0 (slots_of s.stack) = begins-at 0 n (slots_of s.stack) w g.packed e in

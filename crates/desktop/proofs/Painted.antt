@@ -24,7 +24,7 @@ use Rattle.layout.specs.Sizes.{sizes_of}
 use Rattle.layout.specs.State.{desk_of, Good}
 use Rattle.layout.specs.declared.sizes.Sizes.{Sizes}
 use Rattle.layout.specs.declared.state.State.{State}
-use Rattle.desktop.specs.Does.{Carried, answered}
+use Rattle.desktop.specs.Does.{CarriedOut, answered}
 use Rattle.desktop.specs.Painting.{picture_of, area_at, span_at}
 use Rattle.desktop.proofs.Carrying.{carried-to}
 use Rattle.desktop.proofs.Arranging.{desk-with}
@@ -52,7 +52,7 @@ view-by p q w paint h = ap (with-dots w) (fun_ext (λ i. fun_ext (λ j. h.dots i
 pub painted-carried : (z : Sizes) (e : Event) (s : State) (p q : List ℕ) (c n : ℕ) (w : Window) (paint : (ℕ → ℕ → ℕ) → ℕ → ℕ → ℕ) → Good (sizes_of z) s (length p) →
     get_or (slots_of s.stack) n None ≡ Some w → window (desk_of s p) n ≡ view p (Some w) → Painted (picture_of w) paint p q →
     does (sizes_of z) (desk_of s p) e ≡ (with_window (desk_of s p) n (painted (window (desk_of s p) n) (paint (window (desk_of s p) n).dots)), (c, done) ∷ []) → taken (sizes_of z) (desk_of s p) e ≡ true →
-    Carried (sizes_of z) e s p s q (answered c true)
+    CarriedOut (sizes_of z) e s p s q (answered c true)
 unfolding with_window
 painted-carried z e s p q c n w paint g o v h d k =
     let os = slots_of s.stack in
@@ -112,7 +112,7 @@ module _ (z : Sizes) (s : State) (p q : List ℕ) (c n : ℕ) (w : Window) (pic 
   in_box-of x y a b t = ap (λ u. box_fits u x y a b) v ∙ t
 
   pub fill-carried : (x y a b colour : ℕ) (ar : Area) → box_fits (view p (Some w)) x y a b ≡ true → ar ≡ area_at x y a b → r ≡ fits pic ar (length p) → (r ≡ true → Painted pic (filled ar colour) p q) →
-      Carried (sizes_of z) (fill c n x y a b colour) s p s q (answered c true)
+      CarriedOut (sizes_of z) (fill c n x y a b colour) s p s q (answered c true)
   unfolding does taken
   fill-carried x y a b colour ar t ea f h =
       let bx = boxed p w x y a b t in
@@ -121,7 +121,7 @@ module _ (z : Sizes) (s : State) (p q : List ℕ) (c n : ℕ) (w : Window) (pic 
       painted-carried z (fill c n x y a b colour) s p q c n w (filled (area_at x y a b) colour) g o v d (rw (m, in_box-of x y a b t)) (rw (m, in_box-of x y a b t))
 
   pub copy-carried : (x y a b i j : ℕ) (ar : Area) → box_fits (view p (Some w)) x y a b ≡ true → box_fits (view p (Some w)) i j a b ≡ true → ar ≡ area_at x y a b → r ≡ copy_fits pic ar i j (length p) →
-      (r ≡ true → Painted pic (copied ar i j) p q) → Carried (sizes_of z) (copy c n x y a b i j) s p s q (answered c true)
+      (r ≡ true → Painted pic (copied ar i j) p q) → CarriedOut (sizes_of z) (copy c n x y a b i j) s p s q (answered c true)
   unfolding does taken
   copy-carried x y a b i j ar t u ea f h =
       let bx = boxed p w x y a b t in
@@ -132,7 +132,7 @@ module _ (z : Sizes) (s : State) (p q : List ℕ) (c n : ℕ) (w : Window) (pic 
       painted-carried z (copy c n x y a b i j) s p q c n w (copied (area_at x y a b) i j) g o v d (rw (m, in_box-of x y a b t, in_box-of i j a b u)) (rw (m, in_box-of x y a b t, in_box-of i j a b u))
 
   pub put-carried : (x y : ℕ) (bs : List ℕ) (l : Part) → box_fits (view p (Some w)) x y l.count 1 ≡ true → lies 4 bs l ≡ true → r ≡ put_fits pic (span_at x y l.count) (length p) l.from (length bs) →
-      (r ≡ true → Painted pic (put_in x y (colours_in bs l.from l.count)) p q) → Carried (sizes_of z) (put c n x y (part 4 bs l)) s p s q (answered c true)
+      (r ≡ true → Painted pic (put_in x y (colours_in bs l.from l.count)) p q) → CarriedOut (sizes_of z) (put c n x y (part 4 bs l)) s p s q (answered c true)
   unfolding does taken
   put-carried x y bs l t e f h =
       let bx = boxed p w x y l.count 1 t in

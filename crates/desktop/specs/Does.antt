@@ -24,12 +24,15 @@ told_had bytes (Some t) = word_had bytes t.word
 abbrev pub answered : ℕ → Bool → Option Told
 answered c taken = Some (record { program = c; word = pick taken Done No })
 
--- the event e led from the state s and the pictures p to s' and p', and r was told: what the desk does and tells; bytes that are told lie in the clipboard
--- as it was. A request that is refused leaves the
+-- the event e led from the state s and the pictures p to s' and p', and r was told: what the desk does and tells. A request that is refused leaves the
 -- lent pictures as they were, to the last element
 pub record Carried (z : Sizes) (e : Event) (s : State) (p : List ℕ) (s' : State) (p' : List ℕ) (r : Option Told) : Type 0 where
   pub desk : desk_of s' p' ≡ (after z (desk_of s p) e).0
   pub told : told_of s.clip.bytes r ≡ (after z (desk_of s p) e).1
-  pub had : told_had s.clip.bytes r ≡ true
   pub good : Good z s' (length p')
   pub still : taken z (desk_of s p) e ≡ false → p' ≡ p
+
+-- the same, and the bytes that are told lie in the clipboard as it was
+pub record CarriedOut (z : Sizes) (e : Event) (s : State) (p : List ℕ) (s' : State) (p' : List ℕ) (r : Option Told) : Type 0 where
+  pub carried : Carried z e s p s' p' r
+  pub had : told_had s.clip.bytes r ≡ true

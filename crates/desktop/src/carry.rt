@@ -3,7 +3,7 @@ ghost use Rattle.std.specs.Prelude.{◌≡◌, true, length};
 ghost use Rattle.protocol.specs.Meaning.{meaning, had};
 ghost use Rattle.layout.specs.Sizes.{sizes_of};
 ghost use Rattle.layout.specs.State.{Good};
-ghost use Rattle.desktop.specs.Does.{Carried};
+ghost use Rattle.desktop.specs.Does.{CarriedOut};
 
 use crate::told::Told;
 use crate::{paint, person, windows};
@@ -19,7 +19,7 @@ pub fn carry_out(
     call: &[u8],
     e: Event,
 ) -> Option<Told>
-    ensures { Good (sizes_of z) s.old (length pictures.old) → had call.now e ≡ true → Carried (sizes_of z) (meaning call.now e) s.old pictures.old s.new pictures.new result }
+    ensures { Good (sizes_of z) s.old (length pictures.old) → had call.now e ≡ true → CarriedOut (sizes_of z) (meaning call.now e) s.old pictures.old s.new pictures.new result }
 {
     match e {
         Event::Make {

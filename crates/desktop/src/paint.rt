@@ -8,7 +8,7 @@ ghost use Rattle.protocol.specs.Meaning.{part, lies};
 ghost use Rattle.stack.specs.View.{view};
 ghost use Rattle.layout.specs.Sizes.{sizes_of};
 ghost use Rattle.layout.specs.State.{Good};
-ghost use Rattle.desktop.specs.Does.{Carried};
+ghost use Rattle.desktop.specs.Does.{CarriedOut};
 ghost use Rattle.desktop.specs.Painting.{picture_of, area_at};
 
 use crate::told::{Told, answer};
@@ -70,7 +70,7 @@ pub fn fill(
     high: u16,
     colour: u32,
 ) -> Option<Told>
-    ensures { (z : Sizes) → Good (sizes_of z) s.now (length pictures.old) → Carried (sizes_of z) (filling program window x y wide high colour) s.now pictures.old s.now pictures.new result }
+    ensures { (z : Sizes) → Good (sizes_of z) s.now (length pictures.old) → CarriedOut (sizes_of z) (filling program window x y wide high colour) s.now pictures.old s.now pictures.new result }
 {
     let Some(w) = s.stack.owned(program, window) else {
         return answer(program, false);
@@ -95,7 +95,7 @@ pub fn copy(
     to_x: u16,
     to_y: u16,
 ) -> Option<Told>
-    ensures { (z : Sizes) → Good (sizes_of z) s.now (length pictures.old) → Carried (sizes_of z) (copying program window x y wide high to_x to_y) s.now pictures.old s.now pictures.new result }
+    ensures { (z : Sizes) → Good (sizes_of z) s.now (length pictures.old) → CarriedOut (sizes_of z) (copying program window x y wide high to_x to_y) s.now pictures.old s.now pictures.new result }
 {
     let Some(w) = s.stack.owned(program, window) else {
         return answer(program, false);
@@ -124,7 +124,7 @@ pub fn put(
     y: u16,
     colours: Part,
 ) -> Option<Told>
-    ensures { (z : Sizes) → Good (sizes_of z) s.now (length pictures.old) → lies 4 call.now colours ≡ true → Carried (sizes_of z) (putting program window x y (part 4 call.now colours)) s.now pictures.old s.now pictures.new result }
+    ensures { (z : Sizes) → Good (sizes_of z) s.now (length pictures.old) → lies 4 call.now colours ≡ true → CarriedOut (sizes_of z) (putting program window x y (part 4 call.now colours)) s.now pictures.old s.now pictures.new result }
 {
     let Some(w) = s.stack.owned(program, window) else {
         return answer(program, false);

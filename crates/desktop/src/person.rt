@@ -9,7 +9,7 @@ ghost use Rattle.model.specs.Desk.{paste as pasting};
 ghost use Rattle.protocol.specs.Meaning.{part, lies};
 ghost use Rattle.layout.specs.Sizes.{sizes_of};
 ghost use Rattle.layout.specs.State.{Good};
-ghost use Rattle.desktop.specs.Does.{Carried};
+ghost use Rattle.desktop.specs.Does.{CarriedOut};
 ghost use Rattle.desktop.specs.Person.{Known, Heard, Copied};
 
 use crate::told::{Told, answer};
@@ -33,7 +33,7 @@ fn known(s: &State, number: Option<u8>) -> Option<(u8, Window)>
 
 // The window that has the keys is told.
 pub fn key(s: &State, key: u32) -> Option<Told>
-    ensures { (z : Sizes) (p : List ℕ) → Good (sizes_of z) s.now (length p) → Carried (sizes_of z) (typing key) s.now p s.now p result }
+    ensures { (z : Sizes) (p : List ℕ) → Good (sizes_of z) s.now (length p) → CarriedOut (sizes_of z) (typing key) s.now p s.now p result }
 {
     let Some((n, w)) = known(s, s.keys) else {
         return None;
@@ -57,7 +57,7 @@ fn whole(clip: &Clipboard) -> Part
 
 // The window that has the keys is told the clipboard's bytes, if an offer was ever taken.
 pub fn paste(s: &State) -> Option<Told>
-    ensures { (z : Sizes) (p : List ℕ) → Good (sizes_of z) s.now (length p) → Carried (sizes_of z) pasting s.now p s.now p result }
+    ensures { (z : Sizes) (p : List ℕ) → Good (sizes_of z) s.now (length p) → CarriedOut (sizes_of z) pasting s.now p s.now p result }
 {
     let Some((n, w)) = known(s, s.keys) else {
         return None;
@@ -74,7 +74,7 @@ pub fn paste(s: &State) -> Option<Told>
 
 // The button goes down: the window in front at the pointer has the keys and holds the pointer; if there is none nobody has.
 fn press_down(s: &mut State) -> Option<Told>
-    ensures { (z : Sizes) (p : List ℕ) → Good (sizes_of z) s.old (length p) → Carried (sizes_of z) (pressing true) s.old p s.new p result }
+    ensures { (z : Sizes) (p : List ℕ) → Good (sizes_of z) s.old (length p) → CarriedOut (sizes_of z) (pressing true) s.old p s.new p result }
 {
     let Some((n, w)) = s.stack.front_window(s.x, s.y) else {
         s.keys = None;
@@ -94,7 +94,7 @@ fn press_down(s: &mut State) -> Option<Told>
 
 // The button comes up: the window that holds the pointer is told, and nobody holds it.
 fn press_up(s: &mut State) -> Option<Told>
-    ensures { (z : Sizes) (p : List ℕ) → Good (sizes_of z) s.old (length p) → Carried (sizes_of z) (pressing false) s.old p s.new p result }
+    ensures { (z : Sizes) (p : List ℕ) → Good (sizes_of z) s.old (length p) → CarriedOut (sizes_of z) (pressing false) s.old p s.new p result }
 {
     let Some((n, w)) = known(s, s.held) else {
         return None;
@@ -111,7 +111,7 @@ fn press_up(s: &mut State) -> Option<Told>
 
 // The button goes down or comes up.
 pub fn press(s: &mut State, down: bool) -> Option<Told>
-    ensures { (z : Sizes) (p : List ℕ) → Good (sizes_of z) s.old (length p) → Carried (sizes_of z) (pressing down) s.old p s.new p result }
+    ensures { (z : Sizes) (p : List ℕ) → Good (sizes_of z) s.old (length p) → CarriedOut (sizes_of z) (pressing down) s.old p s.new p result }
 {
     if down { press_down(s) } else { press_up(s) }
 }
@@ -142,7 +142,7 @@ fn offset(a: i16, b: i16) -> i32
 
 // The pointer is at a place, or at the dot of the screen that is nearest to it.
 pub fn point(z: Sizes, s: &mut State, x: i16, y: i16) -> Option<Told>
-    ensures { (p : List ℕ) → Good (sizes_of z) s.old (length p) → Carried (sizes_of z) (pointing x y) s.old p s.new p result }
+    ensures { (p : List ℕ) → Good (sizes_of z) s.old (length p) → CarriedOut (sizes_of z) (pointing x y) s.old p s.new p result }
 {
     let px = nearest_dot(x, z.wide);
     let py = nearest_dot(y, z.high);
@@ -183,7 +183,7 @@ fn offered(call: &[u8], program: u8, part: Part) -> Option<Clipboard>
 
 // The clipboard holds the bytes, if a window of the program has the keys and they are at most 4,096.
 pub fn offer(s: &mut State, call: &[u8], program: u8, bytes: Part) -> Option<Told>
-    ensures { (z : Sizes) (p : List ℕ) → Good (sizes_of z) s.old (length p) → lies 1 call.now bytes ≡ true → Carried (sizes_of z) (offering program (part 1 call.now bytes)) s.old p s.new p result }
+    ensures { (z : Sizes) (p : List ℕ) → Good (sizes_of z) s.old (length p) → lies 1 call.now bytes ≡ true → CarriedOut (sizes_of z) (offering program (part 1 call.now bytes)) s.old p s.new p result }
 {
     let Some((_, w)) = known(s, s.keys) else {
         return answer(program, false);

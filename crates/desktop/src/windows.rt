@@ -2,7 +2,7 @@
 ghost use Rattle.std.specs.Prelude.{◌≡◌, ℕ, suc, ◌+◌, ◌*◌, ◌≤◌, ◌&&◌, List, length, None, ◌==◌, slice_index_or};
 ghost use Rattle.layout.specs.Sizes.{sizes_of};
 ghost use Rattle.layout.specs.State.{Good};
-ghost use Rattle.desktop.specs.Does.{Carried};
+ghost use Rattle.desktop.specs.Does.{CarriedOut};
 ghost use Rattle.model.specs.Basics.{pick};
 ghost use Rattle.stack.specs.View.{slots_of, numbered};
 ghost use Rattle.desktop.specs.Windows.{makeable, start_of};
@@ -21,7 +21,7 @@ use stack::state::Window;
 
 // The window lies at x, y from now on.
 pub fn move_to(s: &mut State, program: u8, window: u8, x: i16, y: i16) -> Option<Told>
-    ensures { (z : Sizes) (p : List ℕ) → Good (sizes_of z) s.old (length p) → Carried (sizes_of z) (moving program window x y) s.old p s.new p result }
+    ensures { (z : Sizes) (p : List ℕ) → Good (sizes_of z) s.old (length p) → CarriedOut (sizes_of z) (moving program window x y) s.old p s.new p result }
 {
     let taken = s.stack.move_to(program, window, x, y);
     answer(program, taken)
@@ -29,7 +29,7 @@ pub fn move_to(s: &mut State, program: u8, window: u8, x: i16, y: i16) -> Option
 
 // The window is shown or not from now on.
 pub fn show(s: &mut State, program: u8, window: u8, on: bool) -> Option<Told>
-    ensures { (z : Sizes) (p : List ℕ) → Good (sizes_of z) s.old (length p) → Carried (sizes_of z) (showing program window on) s.old p s.new p result }
+    ensures { (z : Sizes) (p : List ℕ) → Good (sizes_of z) s.old (length p) → CarriedOut (sizes_of z) (showing program window on) s.old p s.new p result }
 {
     let taken = s.stack.show(program, window, on);
     answer(program, taken)
@@ -37,7 +37,7 @@ pub fn show(s: &mut State, program: u8, window: u8, on: bool) -> Option<Told>
 
 // The window is in front of all from now on.
 pub fn raise(s: &mut State, program: u8, window: u8) -> Option<Told>
-    ensures { (z : Sizes) (p : List ℕ) → Good (sizes_of z) s.old (length p) → Carried (sizes_of z) (raising program window) s.old p s.new p result }
+    ensures { (z : Sizes) (p : List ℕ) → Good (sizes_of z) s.old (length p) → CarriedOut (sizes_of z) (raising program window) s.old p s.new p result }
 {
     let Some(_) = s.stack.owned(program, window) else {
         return answer(program, false);
@@ -81,7 +81,7 @@ pub fn make(
     wide: u16,
     high: u16,
 ) -> Option<Told>
-    ensures { Good (sizes_of z) s.old (length pictures.old) → Carried (sizes_of z) (making program x y wide high) s.old pictures.old s.new pictures.new result }
+    ensures { Good (sizes_of z) s.old (length pictures.old) → CarriedOut (sizes_of z) (making program x y wide high) s.old pictures.old s.new pictures.new result }
 {
     let n = s.stack.lowest_free();
     let used = s.stack.area_used();
@@ -110,7 +110,7 @@ pub fn make(
 
 // The window is gone; keys and pointer aren't its any more.
 pub fn close(s: &mut State, pictures: &mut [u32], program: u8, window: u8) -> Option<Told>
-    ensures { (z : Sizes) → Good (sizes_of z) s.old (length pictures.old) → Carried (sizes_of z) (closing program window) s.old pictures.old s.new pictures.new result }
+    ensures { (z : Sizes) → Good (sizes_of z) s.old (length pictures.old) → CarriedOut (sizes_of z) (closing program window) s.old pictures.old s.new pictures.new result }
 {
     let Some(w) = s.stack.owned(program, window) else {
         return answer(program, false);

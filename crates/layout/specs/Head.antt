@@ -9,7 +9,7 @@
 --   74 to 1097     the clipboard's bytes
 --   1098 to 1862   three words for each of 255 windows
 --   1863 to 2047   spare
-use Rattle.std.specs.Prelude.{ℕ, zero, suc, ◌+◌, ◌-◌, ◌*◌, ◌/◌, ◌%◌, Bool, true, false, ◌&&◌, ◌||◌, ltb, List, [], ◌∷◌, map, length, ℤ, pos, ◌-ℤ◌, is_some, Some, None, Option, ◌==◌, nat_eq, nat_le, nat_lt, slice_index, slice_index_or}
+use Rattle.std.specs.Prelude.{ℕ, zero, suc, ◌+◌, ◌-◌, ◌*◌, ◌/◌, ◌%◌, Bool, true, false, ◌&&◌, ◌||◌, List, [], ◌∷◌, map, length, ℤ, pos, ◌-ℤ◌, is_some, Some, None, Option, ◌==◌, nat_eq, nat_le, nat_lt, slice_index, slice_index_or}
 use Rattle.std.specs.List.{range_with_len}
 use Rattle.model.specs.Basics.{pick, bit}
 use Rattle.model.specs.Desk as desk
@@ -96,7 +96,7 @@ all_of f (x ∷ xs) = f x && all_of f xs
 
 -- each window that is there stands in the order once, and no other
 abbrev pub orderly : List (Option Window) → List ℕ → Bool
-orderly os o = each (λ n. nat_eq (times n o) (bit (is_some (slice_index_or os n None)))) (length os) && all_of (λ n. ltb n (length os)) o
+orderly os o = each (λ n. nat_eq (times n o) (bit (is_some (slice_index_or os n None)))) (length os) && all_of (λ n. nat_lt n (length os)) o
 
 -- a window's number + 1, or 0: if it is one, the window is there
 abbrev pub handed : List (Option Window) → ℕ → Bool

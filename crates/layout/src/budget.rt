@@ -3,7 +3,7 @@ ghost use Rattle.std.specs.Prelude.{◌≡◌, ◌+◌, ◌*◌, ◌≤◌};
 ghost use Rattle.layout.specs.Sizes.{sizes_of};
 ghost use Rattle.layout.specs.Refusals.{numbered};
 ghost use Rattle.layout.specs.Budget.{Budgeted, start_refusal, event_refusal};
-ghost use Rattle.layout.specs.Budget.{short as short-of, first as first_of};
+ghost use Rattle.layout.specs.Budget.{short as short_of, first as first_of};
 
 use crate::sizes::{Refusal, Sizes};
 
@@ -53,7 +53,7 @@ fn times_small(a: usize, b: usize) -> usize
 
 // The lent slice is too short: it has fewer elements than it needs.
 fn short(slice: u8, needs: usize, has: usize) -> Option<Refusal>
-    ensures { numbered result ≡ short-of slice needs has }
+    ensures { numbered result ≡ short_of slice needs has }
 {
     if needs <= has {
         None
@@ -74,7 +74,7 @@ fn first(a: Option<Refusal>, b: Option<Refusal>) -> Option<Refusal>
 
 // The lent slice is too short for what is set apart and so much more.
 fn short_by(slice: u8, used: usize, more: usize, has: usize) -> Option<Refusal>
-    ensures { numbered result ≡ short-of slice (used + more) has }
+    ensures { numbered result ≡ short_of slice (used + more) has }
 {
     if used <= has {
         short(slice, more, has - used)

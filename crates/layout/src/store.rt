@@ -2,7 +2,7 @@
 ghost use Rattle.std.specs.Prelude.{◌≡◌, ℕ, ◌<◌, ◌≤◌, length, slice_index};
 ghost use Rattle.stack.specs.View.{numbered};
 ghost use Rattle.layout.specs.Sizes.{sizes_of};
-ghost use Rattle.layout.specs.Head.{low as low_of, high as high-of};
+ghost use Rattle.layout.specs.Head.{low as low_of, high as high_of};
 ghost use Rattle.layout.specs.Stored.{Fronted, Storing};
 
 use crate::sizes::Sizes;
@@ -24,7 +24,7 @@ fn plus_one(n: Option<u8>) -> u32
 fn halves(a: u32, b: u32) -> u32
     requires { (a < 65536) × (b < 65536) }
     ensures first { low_of result ≡ a }
-    ensures second { high-of result ≡ b }
+    ensures second { high_of result ≡ b }
 {
     a + 65536 * b
 }

@@ -2,7 +2,7 @@
 use Rattle.std.specs.Prelude.{◌≡◌, ℕ, Bool, false, ◌||◌, List, [], ◌∷◌, ◌++◌}
 use Rattle.geometry.specs.declared.Rect.{Rect}
 use Rattle.geometry.specs.Boxes.{in_rect}
-use Rattle.geometry.specs.Boxes.{Proper as Proper-on}
+use Rattle.geometry.specs.Boxes.{Proper as ProperOn}
 use Rattle.region.specs.Bands.{Change, Region}
 
 -- whether a box has the dot
@@ -29,4 +29,4 @@ pub record Canonical (rs : List Rect) : Type 0 where
 
 -- a box with dots, on the desk: a region of its own
 abbrev pub Proper : Rect → Type 0
-Proper r = Proper-on 4096 4096 r
+Proper r = ProperOn 4096 4096 r

@@ -4,7 +4,7 @@ ghost use Rattle.protocol.specs.Meaning.{built_of};
 ghost use Rattle.layout.specs.Budget.{BudgetOf};
 ghost use Rattle.layout.specs.Refusals.{numbered, numbered_one};
 ghost use Rattle.layout.specs.Sizes.{sizes_of};
-ghost use Rattle.layout.specs.Sizes.{built as built-kinds};
+ghost use Rattle.layout.specs.Sizes.{built as built_kinds};
 ghost use Rattle.layout.specs.State.{Good, desk_of};
 ghost use Rattle.server.specs.Course.{read_call};
 ghost use Rattle.server.specs.Promise.{Ran, Promised};
@@ -20,7 +20,7 @@ use protocol::Kinds;
 
 // All thirteen kinds of events are there.
 fn all_kinds() -> Kinds
-    ensures { built_of result ≡ built-kinds }
+    ensures { built_of result ≡ built_kinds }
 {
     Kinds { built: [true; 13] }
 }

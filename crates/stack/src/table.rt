@@ -1,7 +1,7 @@
 // The windows by number.
 ghost use Rattle.std.specs.Prelude.{◌≡◌, ℕ, ◌*◌, ◌≤◌, List, [], replicate, Some, None, slice_index_or, slice_set};
 ghost use Rattle.model.specs.Desk.{Desk, nothing, free, area};
-ghost use Rattle.model.specs.Desk.{window as window-of};
+ghost use Rattle.model.specs.Desk.{window as window_of};
 ghost use Rattle.stack.specs.View.{view, slots_of, windows_of, order_of, dots_used};
 ghost use Rattle.stack.specs.Found.{Owned};
 
@@ -58,7 +58,7 @@ impl Stack {
     // The window n, where it is there.
     pub fn window(&self, n: u8) -> Option<Window>
         ensures slot { result ≡ slice_index_or (slots_of self.now) n None }
-        ensures value { (d : Desk) (p : List ℕ) → d.windows ≡ windows_of self.now p → view p result ≡ window-of d n }
+        ensures value { (d : Desk) (p : List ℕ) → d.windows ≡ windows_of self.now p → view p result ≡ window_of d n }
     {
         self.slot(n as usize)
     }

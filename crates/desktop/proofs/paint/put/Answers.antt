@@ -4,7 +4,7 @@ use Rattle.layout.specs.Sizes.{sizes_of}
 use Rattle.layout.specs.State.{desk_of}
 use Rattle.model.specs.Desk.{put, sender, window, mine, box_fits}
 use Rattle.model.specs.System.{taken}
-use Rattle.desktop.specs.Does.{Carried}
+use Rattle.desktop.specs.Does.{CarriedOut}
 use Rattle.desktop.proofs.Carrying.{refusal}
 use Rattle.stack.specs.View.{view}
 use Rattle.protocol.specs.Meaning.{part}
@@ -18,7 +18,7 @@ returns-in_default c z g l =
     let p = c.args.pictures.now in
     let d = desk_of c.args.s.now p in
     let e = put c.args.program c.args.window c.args.x c.args.y (part 4 c.args.call.now c.args.colours) in
-    subst (Carried (sizes_of z) e c.args.s.now p _ _) (sym c.answer.ensures)
+    subst (CarriedOut (sizes_of z) e c.args.s.now p _ _) (sym c.answer.ensures)
     (refusal z e c.args.s.now p c.args.program g
     (and_left (mine d c.args.program c.args.window) (box_fits (window d c.args.window) c.args.x c.args.y (length (part 4 c.args.call.now c.args.colours)) 1) (c.in_default.ensures d p refl)) refl)
 
@@ -29,7 +29,7 @@ returns-then-not-has_box c z g l =
     let d = desk_of c.args.s.now p in
     let e = put c.args.program c.args.window c.args.x c.args.y (part 4 c.args.call.now c.args.colours) in
     let o = c.in-Some.ensures in
-    subst (Carried (sizes_of z) e c.args.s.now p _ _) (sym c.answer-then-not-has_box.ensures)
+    subst (CarriedOut (sizes_of z) e c.args.s.now p _ _) (sym c.answer-then-not-has_box.ensures)
     (refusal z e c.args.s.now p c.args.program g
     (and_right (mine d c.args.program c.args.window) (box_fits (window d c.args.window) c.args.x c.args.y (length (part 4 c.args.call.now c.args.colours)) 1)
     (ap (λ w. box_fits w c.args.x c.args.y (length (part 4 c.args.call.now c.args.colours)) 1) (o.value d p refl) ∙ ap (λ k. box_fits (view p (Some c.in-Some.w)) c.args.x c.args.y k 1) (length-numbers 4 c.args.colours.count (drop c.args.colours.from c.args.call.now)) ∙ sym (c.if-not-has_box.ensures p))) refl)
@@ -40,6 +40,6 @@ returns c z g l =
     let d = desk_of c.args.s.now p in
     let e = put c.args.program c.args.window c.args.x c.args.y (part 4 c.args.call.now c.args.colours) in
     let o = c.in-Some.ensures in
-    subst (Carried (sizes_of z) e c.args.s.now p _ _) (sym c.answer-2.ensures)
+    subst (CarriedOut (sizes_of z) e c.args.s.now p _ _) (sym c.answer-2.ensures)
     (put-carried z c.args.s.now p c.put.new.pictures c.args.program c.args.window c.in-Some.w c.picture.result c.put.result g o.slot (o.mine d p refl) (o.value d p refl) c.picture.ensures
     c.args.x c.args.y c.args.call.now c.args.colours (sym (c.if-not-has_box.ensures p)) l c.put.ensures.answer c.put.ensures.done)

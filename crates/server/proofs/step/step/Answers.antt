@@ -12,12 +12,12 @@ tell-words_end-requires c =
     let h = c.carry_out-told.ensures c.requires.good c.requires.had in
     record {
       had = h.had;
-      room = omega (arith, told-room c.args.z c.args.s.now c.args.pictures.now (meaning c.args.call.now c.args.e) c.carry_out-told.result h.told, c.requires.words);
+      room = omega (arith, told-room c.args.z c.args.s.now c.args.pictures.now (meaning c.args.call.now c.args.e) c.carry_out-told.result h.carried.told, c.requires.words);
     }
 
 pub send-sent_end-requires : goal.send-sent_end-requires
 send-sent_end-requires c =
-    let h = c.carry_out-told.ensures c.requires.good c.requires.had in
+    let h = (c.carry_out-told.ensures c.requires.good c.requires.had).carried in
     let s = c.args.s.now in
     let p = c.args.pictures.now in
     let l : length p ≡ length c.carry_out-told.new.pictures = omega (arith, c.carry_out-told.auto.pictures) in
@@ -34,7 +34,7 @@ send-sent_end-requires c =
 
 pub returns : goal.returns
 returns c =
-    let h = c.carry_out-told.ensures c.requires.good c.requires.had in
+    let h = (c.carry_out-told.ensures c.requires.good c.requires.had).carried in
     let e = meaning c.args.call.now c.args.e in
     let w = c.tell-words_end.ensures.added in
     record {
