@@ -11,6 +11,7 @@ use layout::sizes::Sizes;
 use layout::state::State;
 use protocol::Kinds;
 use std::io::Read;
+use std::process::ExitCode;
 use told::Line;
 
 const USAGE: &str = "usage: desk ACROSS DOWN WINDOWS PROGRAMS SIDE DOTS < EVENTS";
@@ -103,6 +104,12 @@ fn start(rt: &HostRuntime) -> anyhow::Result<()> {
     run(rt, z, budget, call.as_slice())
 }
 
-fn main(rt: HostRuntime) -> anyhow::Result<()> {
-    start(&rt)
+fn main(rt: HostRuntime) -> ExitCode {
+    match start(&rt) {
+        Ok(()) => ExitCode::SUCCESS,
+        Err(e) => {
+            let _ = eprintln!(rt; "{e}");
+            ExitCode::FAILURE
+        }
+    }
 }

@@ -5,6 +5,7 @@
 use anyhow::anyhow;
 use layout::sizes::Sizes;
 use std::io::Read;
+use std::process::ExitCode;
 
 // One size in decimal; one that is too large for 32 bits is out of every range all the same.
 fn size(text: &str) -> Option<u32> {
@@ -47,6 +48,12 @@ fn run(rt: &HostRuntime) -> anyhow::Result<()> {
     Ok(())
 }
 
-fn main(rt: HostRuntime) -> anyhow::Result<()> {
-    run(&rt)
+fn main(rt: HostRuntime) -> ExitCode {
+    match run(&rt) {
+        Ok(()) => ExitCode::SUCCESS,
+        Err(e) => {
+            let _ = eprintln!(rt; "{e}");
+            ExitCode::FAILURE
+        }
+    }
 }

@@ -12,63 +12,30 @@ mod shown;
 mod tests;
 mod text;
 
-use std::alloc::AllocError;
 use std::fmt::Display;
 use std::io::{Read, Write};
-use std::{env, fmt, io};
+use std::process::ExitCode;
+use std::{env, io};
 
-// Why the program ends with status 1. The runtime prints it behind "Error: ", on one line.
-#[derive(Drop)]
-enum Failure {
-    Said { why: String },
-    Device { error: io::Error },
-    Memory,
-}
-
-impl fmt::Debug for Failure {
-    fn fmt<W: fmt::Write>(&self, f: &mut fmt::Formatter<W>) -> fmt::Result {
-        match self {
-            Failure::Said { why } => write!(f, "{why}"),
-            Failure::Device { error } => write!(f, "{error}"),
-            Failure::Memory => f.write_str("no memory is left"),
-        }
-    }
-}
-
-impl From<io::Error> for Failure {
-    fn from(error: io::Error) -> Failure {
-        Failure::Device { error }
-    }
-}
-
-impl From<AllocError> for Failure {
-    fn from(_: AllocError) -> Failure {
-        Failure::Memory
-    }
-}
-
-// Fails for a reason.
-fn fail<D: Display + Drop>(rt: &HostRuntime, why: D) -> Result<(), Failure> {
-    let why = format!(in rt.alloc(); "{why}")?;
-    Err(Failure::Said { why })
+// Says why on standard error, and fails.
+fn fail<D: Display + Drop>(rt: &HostRuntime, why: D) -> io::Result<()> {
+    rt.eprintln(why)?;
+    Err(io::ErrorKind::InvalidInput.into())
 }
 
 // The text on standard input to bytes; nothing is written where a line is refused.
-fn to_bytes(rt: &HostRuntime) -> Result<(), Failure> {
+fn to_bytes(rt: &HostRuntime) -> io::Result<()> {
     let Ok(text) = io::read_to_string(rt.alloc(), rt.stdin()) else {
         return fail(rt, "the input is no text");
     };
     match text::convert(rt.alloc(), text.as_str()) {
-        Ok(bytes) => {
-            rt.stdout().write_all(bytes.as_slice())?;
-            Ok(())
-        }
+        Ok(bytes) => rt.stdout().write_all(bytes.as_slice()),
         Err(refusal) => fail(rt, refusal),
     }
 }
 
 // The bytes on standard input to text, up to the first byte in fault.
-fn to_text(rt: &HostRuntime) -> Result<(), Failure> {
+fn to_text(rt: &HostRuntime) -> io::Result<()> {
     let mut bytes = Vec::new(rt.alloc());
     rt.stdin().read_to_end(&mut bytes)?;
     let description = shown::describe(rt.alloc(), bytes.as_slice())?;
@@ -85,19 +52,27 @@ fn to_text(rt: &HostRuntime) -> Result<(), Failure> {
     }
 }
 
-fn main(rt: HostRuntime) -> Result<(), Failure> {
-    let mut args = env::args(&rt)?;
+// What the words behind the program's name ask for.
+fn run(rt: &HostRuntime) -> io::Result<()> {
+    let mut args = env::args(rt)?;
     let _ = args.next();
     let first = args.next();
     let second = args.next();
     match first {
-        None => to_bytes(&rt),
+        None => to_bytes(rt),
         Some(word) => {
             if word.as_str() == "-d" && second.is_none() {
-                to_text(&rt)
+                to_text(rt)
             } else {
-                fail(&rt, "usage: script [-d] < input > output")
+                fail(rt, "usage: script [-d] < input > output")
             }
         }
+    }
+}
+
+fn main(rt: HostRuntime) -> ExitCode {
+    match run(&rt) {
+        Ok(()) => ExitCode::SUCCESS,
+        Err(_) => ExitCode::FAILURE,
     }
 }
