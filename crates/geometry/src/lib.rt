@@ -9,7 +9,7 @@ ghost use Rattle.geometry.specs.Meaning.{IsBox, IsWindow, SameRect};
 
 // A box of dots: from the column `left` up to `right`, and from the row `top` up to `below`, both left out.
 // Where `right` is not past `left`, or `below` not past `top`, it has no dots.
-#[derive(Clone, Copy)]
+#[derive(Clone, Copy, PartialEq, Eq)]
 pub struct Rect {
     pub left: u16,
     pub top: u16,

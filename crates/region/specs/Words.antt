@@ -3,6 +3,7 @@ use Rattle.std.specs.Prelude.{◌≡◌, ℕ, ◌*◌, ◌/◌, ◌%◌, ◌<◌
 use Rattle.geometry.specs.declared.Rect.{Rect}
 use Rattle.geometry.specs.Boxes.{in_rect}
 use Rattle.region.specs.declared.Op.{Op}
+use Rattle.region.specs.declared.Boxes.{Boxes}
 use Rattle.region.specs.Boxes.{act}
 use Rattle.region.specs.Flat.{covers, Canonical}
 use Rattle.region.specs.Lines.{Roomy}
@@ -15,6 +16,10 @@ abbrev pub rects : List ℕ → List Rect
 rects [] = []
 rects (w ∷ []) = []
 rects (w ∷ v ∷ ws) = unpacked w v ∷ rects ws
+
+-- the boxes that a walk over some words has left
+abbrev pub boxes_left : Boxes → List Rect
+boxes_left b = rects b.words.now
 
 -- the boxes, so many, that lie from the word `at` on
 abbrev pub boxes_at : List ℕ → ℕ → ℕ → List Rect

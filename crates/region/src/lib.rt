@@ -2,7 +2,10 @@
 // In memory a box is two words, left + 65536 · top and right + 65536 · below; a region is a slice of these.
 #![tactic(auto)]
 
-ghost use Rattle.std.specs.Prelude.{◌≡◌, ℕ, ◌+◌, ◌-◌, ◌*◌, ◌/◌, ◌%◌, ◌^◌, ◌<◌, ◌≤◌, min, true, false, [], ◌∷◌, length, take, drop, if◌then◌else◌, Decides, MatchOption, nat_eq, slice_index_or, slice_set};
+ghost use Rattle.std.specs.Prelude.{◌≡◌, ℕ, ◌+◌, ◌-◌, ◌*◌, ◌/◌, ◌%◌, ◌^◌, ◌<◌, ◌≤◌, min, true, false, [], ◌∷◌, length, take, drop, if◌then◌else◌, Decides, MatchOption, ◌==◌, slice_index_or, slice_set};
+ghost use Rattle.std.specs.List.{AllZip};
+ghost use Rattle.std.specs.Iterator.{YieldsFirst, item_count};
+ghost use Rattle.std.specs.Iterator.Runs.{YieldsInOrder};
 ghost use Rattle.geometry.specs.Boxes.{blank};
 ghost use Rattle.region.specs.Edges.{Between, inside};
 ghost use Rattle.region.specs.Boxes.{edges, act, across, Rows, none, placed};
@@ -10,7 +13,7 @@ ghost use Rattle.region.specs.Bands.{same_edges};
 ghost use Rattle.region.specs.Flat.{covers, Canonical};
 ghost use Rattle.region.specs.Lines.{Roomy};
 ghost use Rattle.region.specs.Checks.{fits_band, in_band, follows_on};
-ghost use Rattle.region.specs.Words.{rects, one, Makes, Combines, BoxesOne};
+ghost use Rattle.region.specs.Words.{unpacked, rects, boxes_left, one, Makes, Combines, BoxesOne};
 ghost use Rattle.region.specs.Shift.{shifted, shifted_one, Stays, steps_forth, steps_back, coming, Moves};
 ghost use Rattle.region.specs.Dots.{area, Counts, NoDots};
 ghost use Rattle.region.specs.Laws.{Unique, Found, Few, BoxIs, Apart, Measured};
@@ -26,11 +29,62 @@ pub enum Op {
     Cut,
 }
 
+// One match tells the three apart: a closure in its place would want all that is said of `act` at each call.
+impl Op {
+    // Whether a dot that is in a and in b or not is in what this makes of them.
+    fn holds(self, a: bool, b: bool) -> bool
+        ensures { result ≡ act self a b }
+    {
+        match self {
+            Op::Join => a || b,
+            Op::Meet => a && b,
+            Op::Cut => a && !b,
+        }
+    }
+}
+
 // A desk has at most so many columns and rows.
 const SIDE: u16 = 4096;
 
 // The edge after the last of a row, and the row at which no band ends.
 const NONE: u16 = 65535;
+
+// The word of two halves.
+fn word(low: u16, high: u16) -> u32
+    ensures { result ≡ low + high * 65536 }
+{
+    u32::from(low) + u32::from(high) * 65536
+}
+
+// The two halves of a word.
+fn halves(w: u32) -> (u16, u16)
+    ensures low { result.0 ≡ w % 65536 }
+    ensures high { result.1 ≡ w / 65536 }
+{
+    ((w % 65536) as u16, (w / 65536) as u16)
+}
+
+// The two words of a box.
+pub fn words_of(r: Rect) -> [u32; 2]
+    ensures are { result ≡ (r.left + r.top * 65536) ∷ (r.right + r.below * 65536) ∷ [] }
+    ensures boxes { rects result ≡ r ∷ [] }
+{
+    [word(r.left, r.top), word(r.right, r.below)]
+}
+
+// The box of two words.
+fn rect_of(a: u32, b: u32) -> Rect
+    ensures { result ≡ unpacked a b }
+{
+    let (left, top) = halves(a);
+    let (right, below) = halves(b);
+    Rect {
+        left,
+        top,
+        right,
+        below,
+    }
+}
 
 // The i-th box of some words; past the last, the box with no dots.
 pub fn rect_at(s: &[u32], i: usize) -> Rect
@@ -39,14 +93,37 @@ pub fn rect_at(s: &[u32], i: usize) -> Rect
     if i >= s.len() / 2 {
         return BLANK;
     }
-    let a = s[2 * i];
-    let b = s[2 * i + 1];
-    Rect {
-        left: (a % 65536) as u16,
-        top: (a / 65536) as u16,
-        right: (b % 65536) as u16,
-        below: (b / 65536) as u16,
+    rect_of(s[2 * i], s[2 * i + 1])
+}
+
+// The boxes of some words, one after the other; an odd last word is none.
+#[derive(Drop)]
+struct Boxes<'a> {
+    words: &'a [u32],
+}
+
+impl<'a> Iterator for Boxes<'a> {
+    type Item = Rect;
+
+    ghost next_gives = { YieldsFirst boxes_left };
+
+    ghost remaining = { item_count boxes_left };
+
+    fn next(&mut self) -> Option<Rect> {
+        let [a, b, rest @ ..] = self.words else {
+            return None;
+        };
+        self.words = rest;
+        Some(rect_of(*a, *b))
     }
+}
+
+// The boxes of some words.
+fn boxes_of(s: &[u32]) -> Boxes<'_>
+    ensures value { boxes_left result ≡ rects s.now }
+    ensures runs { YieldsInOrder (YieldsFirst boxes_left) boxes_left }
+{
+    Boxes { words: s }
 }
 
 // Writes r as the i-th box of some words.
@@ -55,18 +132,19 @@ fn put_rect(s: &mut [u32], i: usize, r: Rect)
     ensures boxes { rects s.new ≡ slice_set (rects s.old) i r }
     ensures words { s.new ≡ slice_set (slice_set s.old (2 * i) (r.left + r.top * 65536)) (2 * i + 1) (r.right + r.below * 65536) }
 {
-    s[2 * i] = r.left as u32 + r.top as u32 * 65536;
-    s[2 * i + 1] = r.right as u32 + r.below as u32 * 65536;
+    let [a, b] = words_of(r);
+    s[2 * i] = a;
+    s[2 * i + 1] = b;
 }
 
-// The two words of a box.
-pub fn words_of(r: Rect) -> [u32; 2]
-    ensures { rects result ≡ r ∷ [] }
+// Writes f of each box in its place. By index: of what a mutable iterator wrote a proof would know nothing.
+fn change_boxes<F: Fn(Rect) -> Rect>(s: &mut [u32], f: F)
+    requires { F.IsAlwaysCallable f }
+    ensures { AllZip (F.post f) (rects s.old) (rects s.new) }
 {
-    [
-        r.left as u32 + r.top as u32 * 65536,
-        r.right as u32 + r.below as u32 * 65536,
-    ]
+    for i in 0..s.len() / 2 {
+        put_rect(s, i, f(rect_at(s, i)));
+    }
 }
 
 // The k-th place where the row of boxes begins or ends, and NONE past the last.
@@ -78,17 +156,6 @@ fn edge(a: &[u32], k: usize) -> u16
     }
     let r = rect_at(a, k / 2);
     if k % 2 == 0 { r.left } else { r.right }
-}
-
-// Whether a dot that is in a and in b or not is in what `op` makes of them.
-fn holds(op: Op, a: bool, b: bool) -> bool
-    ensures { result ≡ act op a b }
-{
-    match op {
-        Op::Join => a || b,
-        Op::Meet => a && b,
-        Op::Cut => a && !b,
-    }
 }
 
 // Writes x as the n-th edge of a row of boxes whose first n edges stand in out.
@@ -117,7 +184,7 @@ fn put_edge(out: &mut [u32], n: usize, x: u16, top: u16, below: u16)
 // One past k if the k-th edge is x.
 fn passed(a: &[u32], k: usize, x: u16) -> usize
     requires { k < 2 ^ 32 }
-    ensures { result ≡ (if nat_eq (slice_index_or (edges (rects a.now)) k none) x then k + 1 else k) }
+    ensures { result ≡ (if slice_index_or (edges (rects a.now)) k none == x then k + 1 else k) }
 {
     if edge(a, k) == x { k + 1 } else { k }
 }
@@ -143,7 +210,7 @@ fn combine_row(a: &[u32], b: &[u32], op: Op, top: u16, below: u16, out: &mut [u3
         }
         p = passed(a, p, x);
         q = passed(b, q, x);
-        let inside = holds(op, p % 2 == 1, q % 2 == 1);
+        let inside = op.holds(p % 2 == 1, q % 2 == 1);
         if inside != (n % 2 == 1) {
             put_edge(out, n, x, top, below);
             n += 1;
@@ -156,15 +223,7 @@ fn band_end(a: &[u32], p: usize, top: u16) -> usize
     requires { p ≤ length a.now / 2 }
     ensures { result ≡ p + leading top (drop p (rects a.now)) }
 {
-    let mut end = p;
-    'run: while end < a.len() / 2 {
-        let r = rect_at(a, end);
-        if r.top != top {
-            return end;
-        }
-        end += 1;
-    }
-    end
+    p + boxes_of(&a[2 * p..]).take_while(|r| r.top == top).count()
 }
 
 // The boxes of the row y stand from p up to the first answer, and the rows from y up to the second are like it.
@@ -185,7 +244,7 @@ fn band(a: &[u32], p: usize, y: u16) -> (usize, u16)
 
 // Where a reader stands at the row `to`, whose band ends at the row `next`.
 fn onward(p: usize, end: usize, next: u16, to: u16) -> usize
-    ensures { result ≡ (if nat_eq next to then end else p) }
+    ensures { result ≡ (if next == to then end else p) }
 {
     if next == to { end } else { p }
 }
@@ -194,27 +253,17 @@ fn onward(p: usize, end: usize, next: u16, to: u16) -> usize
 fn same_row(u: &[u32], v: &[u32]) -> bool
     ensures { result ≡ same_edges (edges (rects u.now)) (edges (rects v.now)) }
 {
-    if u.len() / 2 != v.len() / 2 {
-        return false;
-    }
-    'each: for i in 0..u.len() / 2 {
-        let f = rect_at(u, i);
-        let g = rect_at(v, i);
-        if f.left != g.left || f.right != g.right {
-            return false;
-        }
-    }
-    true
+    u.len() / 2 == v.len() / 2
+        && boxes_of(u)
+            .zip(boxes_of(v))
+            .all(|(f, g)| f.left == g.left && f.right == g.right)
 }
 
 // Has the boxes of a band end at another row.
 fn stretch(s: &mut [u32], below: u16)
     ensures { rects s.new ≡ stretched below (rects s.old) }
 {
-    'each: for i in 0..s.len() / 2 {
-        let r = rect_at(s, i);
-        put_rect(s, i, Rect { below, ..r });
-    }
+    change_boxes(s, |r| Rect { below, ..r });
 }
 
 // Writes the boxes of what `op` makes of the regions a and b, and says how many; None if out is too short.
@@ -270,8 +319,7 @@ fn in_band(s: &[u32], top: u16, below: u16) -> bool
     ensures { result ≡ in_band top below 0 (rects s.now) }
 {
     let mut low: u16 = 0;
-    'each: for i in 0..s.len() / 2 {
-        let r = rect_at(s, i);
+    for r in boxes_of(s) {
         if !fits(r, top, below, low) {
             return false;
         }
@@ -344,60 +392,46 @@ fn meet_rect(a: &[u32], r: Rect, out: &mut [u32]) -> Option<usize>
     let Some(k) = from_rect(r, &mut words) else {
         return unreachable();
     };
-    combine(a, &words[0..2 * k], Op::Meet, out)
+    combine(a, &words[..2 * k], Op::Meet, out)
 }
 
-// How far a distance goes forth: to the right, or down.
-fn forth(d: i16) -> u16
-    ensures { result ≡ steps_forth d }
+// The place that comes to x, when all go d to the right or down; the desk's end for one past it.
+fn before(x: u16, d: i16) -> u16
+    ensures { result ≡ min (x + steps_back d - steps_forth d) 4096 }
 {
-    if d < 0 { 0 } else { d as u16 }
+    x.saturating_sub_signed(d).min(SIDE)
 }
 
-// How far it goes back: to the left, or up.
-fn back(d: i16) -> u16
-    ensures within { result ≤ 32768 }
-    ensures value { result ≡ steps_back d }
-{
-    if d < 0 { (-(d as i32)) as u16 } else { 0 }
-}
-
-// The dots that come to lie on the screen, when all go so far to the right and to the left, down and up.
-fn source(right: u16, left: u16, low: u16, up: u16, across: u16, down: u16) -> Rect
-    requires { (left ≤ 32768) × (up ≤ 32768) }
-    ensures { result ≡ coming right left low up across down }
+// The dots that come to lie on the screen, when all go dx to the right and dy down.
+fn source(dx: i16, dy: i16, across: u16, down: u16) -> Rect
+    ensures { result ≡ coming (steps_forth dx) (steps_back dx) (steps_forth dy) (steps_back dy) across down }
 {
     Rect {
-        left: left.min(SIDE),
-        top: up.min(SIDE),
-        right: (across.min(SIDE) + left).saturating_sub(right).min(SIDE),
-        below: (down.min(SIDE) + up).saturating_sub(low).min(SIDE),
+        left: before(0, dx),
+        top: before(0, dy),
+        right: before(across.min(SIDE), dx),
+        below: before(down.min(SIDE), dy),
     }
 }
 
-// A box so many dots to the right and down, and then to the left and up.
-fn moved(b: Rect, right: u16, left: u16, low: u16, up: u16) -> Rect
-    requires { (Stays right left low up (b ∷ [])) × ((left ≤ 32768) × (up ≤ 32768)) }
-    ensures { result ≡ shifted_one right left low up b }
+// A box dx to the right and dy down.
+fn moved(b: Rect, dx: i16, dy: i16) -> Rect
+    ensures { Stays (steps_forth dx) (steps_back dx) (steps_forth dy) (steps_back dy) (b ∷ []) → result ≡ shifted_one (steps_forth dx) (steps_back dx) (steps_forth dy) (steps_back dy) b }
 {
     Rect {
-        left: b.left + right - left,
-        top: b.top + low - up,
-        right: b.right + right - left,
-        below: b.below + low - up,
+        left: b.left.saturating_add_signed(dx),
+        top: b.top.saturating_add_signed(dy),
+        right: b.right.saturating_add_signed(dx),
+        below: b.below.saturating_add_signed(dy),
     }
 }
 
-// Moves each box, so many dots to the right and down, and then to the left and up.
-fn move_boxes(s: &mut [u32], right: u16, left: u16, low: u16, up: u16)
-    requires stays { Stays right left low up (rects s.old) }
-    requires small { (left ≤ 32768) × (up ≤ 32768) }
-    ensures { rects s.new ≡ shifted right left low up (rects s.old) }
+// Moves each box dx to the right and dy down.
+fn move_boxes(s: &mut [u32], dx: i16, dy: i16)
+    requires { Stays (steps_forth dx) (steps_back dx) (steps_forth dy) (steps_back dy) (rects s.old) }
+    ensures { rects s.new ≡ shifted (steps_forth dx) (steps_back dx) (steps_forth dy) (steps_back dy) (rects s.old) }
 {
-    'each: for i in 0..s.len() / 2 {
-        let b = rect_at(s, i);
-        put_rect(s, i, moved(b, right, left, low, up));
-    }
+    change_boxes(s, |b| moved(b, dx, dy));
 }
 
 // Writes the region a, moved by dx columns and dy rows, as far as it then lies on a screen, and says how many boxes it has.
@@ -405,15 +439,8 @@ fn move_boxes(s: &mut [u32], right: u16, left: u16, low: u16, up: u16)
 pub fn shift(a: &[u32], dx: i16, dy: i16, across: u16, down: u16, out: &mut [u32]) -> Option<usize>
     ensures { Moves (rects a.now) dx dy across down (length out.old / 2) out.new result }
 {
-    let right = forth(dx);
-    let left = back(dx);
-    let low = forth(dy);
-    let up = back(dy);
-    let from = source(right, left, low, up, across, down);
-    let Some(n) = meet_rect(a, from, out) else {
-        return None;
-    };
-    move_boxes(&mut out[0..2 * n], right, left, low, up);
+    let n = meet_rect(a, source(dx, dy, across, down), out)?;
+    move_boxes(&mut out[..2 * n], dx, dy);
     Some(n)
 }
 
@@ -421,26 +448,14 @@ pub fn shift(a: &[u32], dx: i16, dy: i16, across: u16, down: u16, out: &mut [u32
 pub fn contains(a: &[u32], i: u16, j: u16) -> bool
     ensures { result ≡ covers (rects a.now) i j }
 {
-    'each: for k in 0..a.len() / 2 {
-        let r = rect_at(a, k);
-        if r.contains(i, j) {
-            return true;
-        }
-    }
-    false
+    boxes_of(a).any(|r| r.contains(i, j))
 }
 
 // Whether no box has a dot. Of a region the first box tells.
 pub fn is_empty(a: &[u32]) -> bool
     ensures { NoDots result (rects a.now) }
 {
-    'each: for n in 0..a.len() / 2 {
-        let r = rect_at(a, n);
-        if !r.is_empty() {
-            return false;
-        }
-    }
-    true
+    boxes_of(a).all(|r| r.is_empty())
 }
 
 // The dots of all boxes.
@@ -448,12 +463,9 @@ fn dots_of(a: &[u32]) -> u32
     requires { Canonical (rects a.now) }
     ensures { result ≡ area (rects a.now) }
 {
-    let mut n: u32 = 0;
-    'each: for i in 0..a.len() / 2 {
-        let r = rect_at(a, i);
-        n += r.wide() as u32 * r.high() as u32;
-    }
-    n
+    boxes_of(a)
+        .map(|r| u32::from(r.wide()) * u32::from(r.high()))
+        .sum()
 }
 
 // How many dots a region has; None if the boxes are no region.
