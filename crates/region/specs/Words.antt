@@ -1,5 +1,5 @@
 -- Boxes in memory: two words a box, left + 65536·top and right + 65536·below.
-use Rattle.std.specs.Prelude.{◌≡◌, ℕ, ◌*◌, ◌/◌, ◌%◌, ◌<◌, ◌≤◌, cond, ◌&&◌, ◌⊎◌, List, [], ◌∷◌, length, take, drop, Some, None, Option, nat_lt}
+use Rattle.std.specs.Prelude.{◌≡◌, ℕ, ◌*◌, ◌/◌, ◌%◌, ◌<◌, ◌≤◌, if◌then◌else◌, ◌&&◌, ◌⊎◌, List, [], ◌∷◌, length, take, drop, Some, None, Option, nat_lt}
 use Rattle.geometry.specs.declared.Rect.{Rect}
 use Rattle.geometry.specs.Boxes.{in_rect}
 use Rattle.region.specs.declared.Op.{Op}
@@ -39,7 +39,7 @@ Combines op A B room out (Some n) = (Canonical A × Canonical B) × Makes op A B
 
 -- the boxes of what lies in one box: that box, or none
 abbrev pub one : Rect → List Rect
-one r = cond (nat_lt r.left r.right && nat_lt r.top r.below) (r ∷ []) []
+one r = if nat_lt r.left r.right && nat_lt r.top r.below then r ∷ [] else []
 
 -- the first n boxes of the words `after` are a region that covers one box; the words behind are as before
 pub record Boxed (r : Rect) (before after : List ℕ) (n : ℕ) : Type 0 where

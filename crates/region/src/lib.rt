@@ -29,7 +29,7 @@ pub enum Op {
     Cut,
 }
 
-// One match tells the three apart: a closure in its place would want all that is said of `act` at each call.
+// An enum and one match: with a closure in its place `F.post` would have to say at each call what `act` says once.
 impl Op {
     // Whether a dot that is in a and in b or not is in what this makes of them.
     fn holds(self, a: bool, b: bool) -> bool
@@ -190,6 +190,7 @@ fn passed(a: &[u32], k: usize, x: u16) -> usize
 }
 
 // Writes the boxes of one row that cover what `op` makes of the rows a and b, and says how many.
+// Each row keeps its place by a number, since the next edge of the two is not always the same row's.
 fn combine_row(a: &[u32], b: &[u32], op: Op, top: u16, below: u16, out: &mut [u32]) -> usize
     requires left { Between 0 (edges (rects a.now)) 4097 }
     requires right { Between 0 (edges (rects b.now)) 4097 }
@@ -226,27 +227,71 @@ fn band_end(a: &[u32], p: usize, top: u16) -> usize
     p + boxes_of(&a[2 * p..]).take_while(|r| r.top == top).count()
 }
 
-// The boxes of the row y stand from p up to the first answer, and the rows from y up to the second are like it.
-fn band(a: &[u32], p: usize, y: u16) -> (usize, u16)
+// The boxes of one row of a region, from the box `from` up to the box `end`; the rows up to `below` are like it.
+#[derive(Clone, Copy)]
+struct Band {
+    from: usize,
+    end: usize,
+    below: u16,
+    ghost ordered: { from ≤ end },
+}
+
+impl Band {
+    // How many boxes it has.
+    fn len(self) -> usize
+        ensures { result ≡ self.end - self.from }
+    {
+        self.end - self.from
+    }
+
+    // Its words, of those of its region.
+    fn words(self, a: &[u32]) -> &[u32]
+        requires { 2 * self.end ≤ length a.now }
+        ensures boxes { rects result.now ≡ take (self.end - self.from) (drop self.from (rects a.now)) }
+        ensures long { length (rects result.now) ≡ self.end - self.from }
+    {
+        &a[2 * self.from..2 * self.end]
+    }
+
+    // Where a reader stands at the row `to`: past the boxes where the band ends there.
+    fn onward(self, to: u16) -> usize
+        ensures { result ≡ (if self.below == to then self.end else self.from) }
+    {
+        if self.below == to {
+            self.end
+        } else {
+            self.from
+        }
+    }
+}
+
+// The band of the row y, whose boxes begin at p if it has some.
+fn band_at(a: &[u32], p: usize, y: u16) -> Band
     requires { Rest (rects a.now) p y }
-    ensures slab { Slab (rects a.now) p y result.0 result.1 }
-    ensures within { (p ≤ result.0) × (2 * result.0 ≤ length a.now) }
+    ensures from { result.from ≡ p }
+    ensures slab { Slab (rects a.now) p y result.end result.below }
+    ensures within { 2 * result.end ≤ length a.now }
 {
     if p >= a.len() / 2 {
-        return (p, NONE);
+        return Band {
+            from: p,
+            end: p,
+            below: NONE,
+        };
     }
     let first = rect_at(a, p);
     if y < first.top {
-        return (p, first.top);
+        return Band {
+            from: p,
+            end: p,
+            below: first.top,
+        };
     }
-    (band_end(a, p, first.top), first.below)
-}
-
-// Where a reader stands at the row `to`, whose band ends at the row `next`.
-fn onward(p: usize, end: usize, next: u16, to: u16) -> usize
-    ensures { result ≡ (if next == to then end else p) }
-{
-    if next == to { end } else { p }
+    Band {
+        from: p,
+        end: band_end(a, p, first.top),
+        below: first.below,
+    }
 }
 
 // Whether the boxes of two rows stand at the same places across.
@@ -267,6 +312,7 @@ fn stretch(s: &mut [u32], below: u16)
 }
 
 // Writes the boxes of what `op` makes of the regions a and b, and says how many; None if out is too short.
+// The boxes before p and q are passed; in out, the last band begins at m and ends at n.
 fn sweep(a: &[u32], b: &[u32], op: Op, out: &mut [u32]) -> Option<usize>
     requires left { Canonical (rects a.now) }
     requires right { Canonical (rects b.now) }
@@ -278,23 +324,16 @@ fn sweep(a: &[u32], b: &[u32], op: Op, out: &mut [u32]) -> Option<usize>
     let mut m: usize = 0;
     let mut n: usize = 0;
     'bands: loop {
-        let (pe, ya) = band(a, p, y);
-        let (qe, yb) = band(b, q, y);
-        let to = ya.min(yb);
+        let u = band_at(a, p, y);
+        let v = band_at(b, q, y);
+        let to = u.below.min(v.below);
         if to == NONE {
             return Some(n);
         }
-        if out.len() / 2 - n < (pe - p) + (qe - q) {
+        if out.len() / 2 - n < u.len() + v.len() {
             return None;
         }
-        let k = combine_row(
-            &a[2 * p..2 * pe],
-            &b[2 * q..2 * qe],
-            op,
-            y,
-            to,
-            &mut out[2 * n..],
-        );
+        let k = combine_row(u.words(a), v.words(b), op, y, to, &mut out[2 * n..]);
         if same_row(&out[2 * m..2 * n], &out[2 * n..2 * (n + k)]) {
             stretch(&mut out[2 * m..2 * n], to);
         } else {
@@ -302,8 +341,8 @@ fn sweep(a: &[u32], b: &[u32], op: Op, out: &mut [u32]) -> Option<usize>
             n += k;
         }
         y = to;
-        p = onward(p, pe, ya, to);
-        q = onward(q, qe, yb, to);
+        p = u.onward(to);
+        q = v.onward(to);
     }
 }
 
@@ -339,7 +378,7 @@ fn follows(above: &[u32], y: u16, band: &[u32], first: Rect) -> bool
         && !(y == first.top && same_row(above, band))
 }
 
-// Whether some boxes are a region. One walk: each band is seen with the one above it.
+// Whether some boxes are a region. One walk, a band at each step and not a box, with the band above it in view.
 pub fn is_region(a: &[u32]) -> bool
     ensures { Decides result (Canonical (rects a.now)) }
 {
@@ -385,7 +424,8 @@ pub fn from_rect(r: Rect, out: &mut [u32]) -> Option<usize>
 
 // The dots of a region that lie in a box too: so many boxes at the start of `out`.
 fn meet_rect(a: &[u32], r: Rect, out: &mut [u32]) -> Option<usize>
-    requires { (r.right ≤ 4096) × (r.below ≤ 4096) }
+    requires on_right { r.right ≤ 4096 }
+    requires on_below { r.below ≤ 4096 }
     ensures { Combines Op.Meet (rects a.now) (one r) (length out.old / 2) out.new result }
 {
     let mut words: [u32; 2] = [0; 2];

@@ -1,4 +1,4 @@
-use Rattle.std.proofs.Common.{◌≡◌, ℕ, ◌<◌, length, Bool, true, false, rules}
+use Rattle.std.proofs.Common.{ℕ, ◌<◌, length, Bool, true, false, rules}
 use borrow.Author.Tests.{tests}
 use Rattle.std.specs.Bool.{MatchBool}
 use Rattle.std.specs.List.{AllWithin, HoldsAt}

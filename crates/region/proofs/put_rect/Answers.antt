@@ -1,4 +1,4 @@
-use Rattle.std.proofs.Common.{◌≡◌, List, ◌∷◌, [], ◌+◌, ◌*◌, set, get_or, ap, ap₂, ◌∙◌, arith}
+use Rattle.std.proofs.Common.{◌+◌, ◌*◌, set, get_or, ap, ◌∙◌, arith}
 use Rattle.region.specs.Words.{rects}
 use Rattle.region.proofs.Wording.{rects-set, unpacked-packed}
 use Rattle.region.proofs.put_rect.Goals as goal

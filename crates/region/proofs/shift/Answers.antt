@@ -1,6 +1,5 @@
-use Rattle.std.proofs.Common.{◌≡◌, ℕ, ℤ, List, length, take, ◌*◌, ◌/◌, sym, subst, subst₂, ◌∙◌, arith, Option, w16, to_z, of_z}
+use Rattle.std.proofs.Common.{◌≡◌, ℤ, length, take, ◌*◌, ◌/◌, sym, subst, subst₂, ◌∙◌, arith, w16, to_z, of_z}
 use Rattle.std.proofs.lemmas.Int.{ints}
-use Rattle.geometry.specs.declared.Rect.{Rect}
 use Rattle.region.specs.Shift.{Moves, Stays, shifted, coming, steps_forth, steps_back}
 use Rattle.region.specs.Words.{rects}
 use Rattle.region.proofs.Moving.{shift-stays, shift_made, moved-room, coming-region}
