@@ -8,6 +8,15 @@ pub struct Part {
     pub count: u16,
 }
 
+// A box of a window's own dots: its upper left dot, and how many dots it has across and down.
+#[derive(Clone, Copy, PartialEq, Eq)]
+pub struct Patch {
+    pub x: u16,
+    pub y: u16,
+    pub wide: u16,
+    pub high: u16,
+}
+
 // An event. Those from `Make` to `Offer` come from a program, the others from the person at the desk.
 #[derive(Clone, Copy)]
 pub enum Event {
@@ -40,10 +49,7 @@ pub enum Event {
     Fill {
         program: u8,
         window: u8,
-        x: u16,
-        y: u16,
-        wide: u16,
-        high: u16,
+        patch: Patch,
         colour: u32,
     },
     Put {
@@ -56,10 +62,7 @@ pub enum Event {
     Copy {
         program: u8,
         window: u8,
-        x: u16,
-        y: u16,
-        wide: u16,
-        high: u16,
+        patch: Patch,
         to_x: u16,
         to_y: u16,
     },
