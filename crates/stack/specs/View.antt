@@ -5,6 +5,7 @@ use Rattle.model.specs.Desk as desk
 use Rattle.model.specs.Desk.{nothing}
 use Rattle.stack.specs.declared.state.Window.{Window}
 use Rattle.stack.specs.declared.state.Stack.{Stack}
+use Rattle.few.specs.Held.{held}
 
 -- the dots of a window's picture, and 0 outside
 abbrev pub dots_of : List ℕ → Window → ℕ → ℕ → ℕ
@@ -23,7 +24,7 @@ abbrev pub windows_of : Stack → List ℕ → List desk.Window
 windows_of s p = map (view p) (slots_of s)
 
 abbrev pub order_of : Stack → List ℕ
-order_of s = take s.count s.order
+order_of s = held s.order
 
 -- a window's number + 1, or 0
 abbrev pub numbered : Option ℕ → ℕ

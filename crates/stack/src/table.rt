@@ -6,6 +6,7 @@ ghost use Rattle.stack.specs.View.{view, slots_of, windows_of, order_of, dots_us
 ghost use Rattle.stack.specs.Found.{Owned};
 
 use crate::state::{Stack, Window};
+use few::Few;
 
 impl Window {
     // How many dots its picture has.
@@ -39,8 +40,7 @@ impl Stack {
         Stack {
             limit: limit as usize,
             windows: [None; 255],
-            order: [0; 255],
-            count: 0,
+            order: Few::new(0),
         }
     }
 
