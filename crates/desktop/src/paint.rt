@@ -9,25 +9,14 @@ ghost use Rattle.stack.specs.View.{view};
 ghost use Rattle.layout.specs.Sizes.{sizes_of};
 ghost use Rattle.layout.specs.State.{Good};
 ghost use Rattle.desktop.specs.Does.{CarriedOut};
-ghost use Rattle.desktop.specs.Painting.{picture_of, area_at};
+ghost use Rattle.desktop.specs.Painting.{area_at};
 
 use crate::told::{Told, answer};
 use layout::sizes::Sizes;
 use layout::state::State;
-use pixels::{Area, Picture, Span};
+use pixels::{Area, Span};
 use protocol::Part;
 use stack::state::Window;
-
-// A window's picture in the lent pictures.
-pub fn picture(w: Window) -> Picture
-    ensures { result ≡ picture_of w }
-{
-    Picture {
-        at: w.at,
-        wide: w.wide as usize,
-        high: w.high as usize,
-    }
-}
 
 // Whether a box lies in a window: its corner is a dot of the window, and its sides don't pass the window's.
 pub fn has_box(w: Window, x: u16, y: u16, wide: u16, high: u16) -> bool
@@ -78,7 +67,7 @@ pub fn fill(
     if !has_box(w, x, y, wide, high) {
         return answer(program, false);
     }
-    let _ = pixels::fill(pictures, picture(w), area(x, y, wide, high), colour);
+    let _ = pixels::fill(pictures, w.picture(), area(x, y, wide, high), colour);
     answer(program, true)
 }
 
@@ -105,7 +94,7 @@ pub fn copy(
     }
     let _ = pixels::copy(
         pictures,
-        picture(w),
+        w.picture(),
         area(x, y, wide, high),
         to_x as usize,
         to_y as usize,
@@ -137,6 +126,6 @@ pub fn put(
         y: y as usize,
         wide: colours.count as usize,
     };
-    let _ = pixels::put(pictures, picture(w), span, call, colours.from);
+    let _ = pixels::put(pictures, w.picture(), span, call, colours.from);
     answer(program, true)
 }

@@ -6,6 +6,7 @@ use Rattle.model.specs.Desk.{nothing}
 use Rattle.stack.specs.declared.state.Window.{Window}
 use Rattle.stack.specs.declared.state.Stack.{Stack}
 use Rattle.few.specs.Held.{held}
+use Rattle.pixels.specs.declared.Picture.{Picture}
 
 -- the dots of a window's picture, and 0 outside
 abbrev pub dots_of : List ℕ → Window → ℕ → ℕ → ℕ
@@ -15,6 +16,10 @@ abbrev pub view : List ℕ → Option Window → desk.Window
 view p None = nothing
 view p (Some w) =
     record { there = true; owner = w.owner; shown = w.shown; x = w.x; y = w.y; wide = w.wide; high = w.high; dots = dots_of p w }
+
+-- where it lies in the lent pictures
+abbrev pub picture_of : Window → Picture
+picture_of w = record { at = w.at; wide = w.wide; high = w.high }
 
 -- the windows that can be made
 abbrev pub slots_of : Stack → List (Option Window)
