@@ -25,7 +25,7 @@ pub struct Written {
     pub words: usize,
 }
 
-// Whether a word is another than no. Whatever it is, it fits its bytes.
+// Whether a word is another than no. Whatever it is, it fits its bytes, which is seen kind by kind: `matches!` would prove the value alone.
 fn is_grant(word: Word) -> bool
     ensures value { result ≡ grants word }
     ensures fits { (bs : List ℕ) → Bytes bs → CarriedWord (word_meaning bs word) }
