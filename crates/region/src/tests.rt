@@ -142,7 +142,7 @@ fn put_all(boxes: &[[u16; 4]], out: &mut [u32]) -> usize
 fn same(rt: &impl Abort, words: &[u32], n: usize, want: &[[u16; 4]]) {
     assert_eq!(rt; n, some(want));
     for (i, b) in want[..some(want)].iter().enumerate() {
-        assert!(rt; rect_at(words, i) == rect(*b));
+        assert_eq!(rt; rect_at(words, i), rect(*b));
     }
 }
 
