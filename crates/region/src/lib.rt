@@ -20,6 +20,7 @@ ghost use Rattle.region.specs.Laws.{Unique, Found, Few, BoxIs, Apart, Measured};
 ghost use Rattle.region.specs.Reader.{Rest, Slab, leading, stretched};
 
 use geometry::{BLANK, Rect};
+use halves::{halves, word};
 
 // What is made of two sets.
 #[derive(Clone, Copy)]
@@ -48,21 +49,6 @@ const SIDE: u16 = 4096;
 
 // The edge after the last of a row, and the row at which no band ends.
 const NONE: u16 = 65535;
-
-// The word of two halves.
-fn word(low: u16, high: u16) -> u32
-    ensures { result ≡ low + high * 65536 }
-{
-    u32::from(low) + u32::from(high) * 65536
-}
-
-// The two halves of a word.
-fn halves(w: u32) -> (u16, u16)
-    ensures low { result.0 ≡ w % 65536 }
-    ensures high { result.1 ≡ w / 65536 }
-{
-    ((w % 65536) as u16, (w / 65536) as u16)
-}
 
 // The two words of a box.
 pub fn words_of(r: Rect) -> [u32; 2]
