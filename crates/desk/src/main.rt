@@ -76,8 +76,10 @@ fn run(rt: &HostRuntime, z: Sizes, budget: Budget, call: &[u8]) -> anyhow::Resul
                 at = end;
             }
             Err(fault) => {
-                let place = fault.place;
-                println!(rt; "refused 3 at {place}")?;
+                let no = Refusal::Fault {
+                    place: fault.place as u32,
+                };
+                println!(rt; "{no}")?;
                 return Ok(());
             }
         }
@@ -95,7 +97,7 @@ fn start(rt: &HostRuntime) -> anyhow::Result<()> {
     let budget = match z.budget() {
         Ok(budget) => budget,
         Err(no) => {
-            println!(rt; "refused {} at {}", no.number(), no.place())?;
+            println!(rt; "{no}")?;
             return Ok(());
         }
     };

@@ -5,7 +5,7 @@ ghost use Rattle.layout.specs.Head.{sizes_in};
 ghost use Rattle.layout.specs.Loads.{Headed, Sized, Stacked, Loaded, load_refusal};
 ghost use Rattle.layout.specs.Refusals.{numbered_one};
 
-use crate::sizes::{Refusal, Sizes};
+use crate::sizes::{Refusal, Sizes, Slice};
 use crate::state::State;
 use crate::{clip, entry, head, order, table};
 use stack::state::Stack;
@@ -70,12 +70,12 @@ pub fn load_refusal(work: &[u32], pictures: usize) -> Refusal
     ensures { numbered_one result ≡ load_refusal work.now pictures }
 {
     let Some(z) = head_sizes(work) else {
-        return Refusal::Short { slice: 1 };
+        return Refusal::Short(Slice::Work);
     };
     if z.refusal().is_some() || z.dots as usize <= pictures {
-        return Refusal::Short { slice: 1 };
+        return Refusal::Short(Slice::Work);
     }
-    Refusal::Short { slice: 0 }
+    Refusal::Short(Slice::Pictures)
 }
 
 // The sizes and the state that the work holds, for pictures of so many dots; nothing where no start and events can have made it.

@@ -37,7 +37,7 @@ fn run(rt: &HostRuntime) -> anyhow::Result<()> {
         return Err(anyhow!("usage: screen ACROSS DOWN WINDOWS PROGRAMS SIDE DOTS < EVENTS"));
     };
     if let Some(no) = z.refusal() {
-        println!(rt; "refused {} at {}", no.number(), no.place())?;
+        println!(rt; "{no}")?;
         return Ok(());
     }
     let mut call = Vec::new(rt.alloc());

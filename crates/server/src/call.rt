@@ -13,7 +13,7 @@ use crate::outcome::Outcome;
 use crate::step::{Written, step};
 use layout::budget::{Budget, Lent, Used};
 use layout::load::{load, load_refusal};
-use layout::sizes::{Refusal, Sizes};
+use layout::sizes::{Refusal, Sizes, Slice};
 use layout::state::State;
 use layout::store::store;
 use protocol::Kinds;
@@ -129,7 +129,7 @@ pub fn event(
     let z = found.0;
     let mut s = found.1;
     let Ok(budget) = z.budget() else {
-        return refused(Refusal::Short { slice: 1 });
+        return refused(Refusal::Short(Slice::Work));
     };
     let lent = Lent {
         pictures: pictures.len(),
