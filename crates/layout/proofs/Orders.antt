@@ -12,11 +12,11 @@ use Rattle.layout.specs.Head.{each, all_of, orderly, handed}
 use Rattle.layout.specs.Loads.{Tally}
 use Rattle.layout.proofs.Each.{each_same, all_push}
 
-pub order-more : (f : ℕ → ℕ) (i n : ℕ) (o new : List ℕ) (r : Bool) → o ≡ map f (range_with_len 0 i) → i < 255 → r ≡ ltb (length o) 255 → n ≡ f i → new ≡ pick r (o ++ n ∷ []) o →
+pub order-more : (f : ℕ → ℕ) (most i n : ℕ) (o new : List ℕ) (r : Bool) → o ≡ map f (range_with_len 0 i) → i < most → r ≡ ltb (length o) most → n ≡ f i → new ≡ pick r (o ++ n ∷ []) o →
     new ≡ map f (range_with_len 0 (i + 1))
-order-more f i n o new r e h t q g =
+order-more f most i n o new r e h t q g =
     let l : length o ≡ i = ap length e ∙ length-map-range_with_len f 0 i in
-    let b : r ≡ true = t ∙ lt-ltb (length o) 255 (omega arith) in
+    let b : r ≡ true = t ∙ lt-ltb (length o) most (omega arith) in
     g ∙ ap (λ x. pick x (o ++ n ∷ []) o) b ∙ ap (λ x. o ++ x ∷ []) q ∙ ap (λ us. us ++ f i ∷ []) e ∙ sym (map-range_with_len_more f 0 i i (omega arith))
 
 one-most : (n m : ℕ) → one n m ≤ 1

@@ -1,5 +1,5 @@
 use Rattle.std.proofs.Common.{◌≡◌, refl, ap, ◌∙◌, arith}
-use Rattle.layout.specs.Head.{byte_in, bytes_in}
+use Rattle.layout.specs.Head.{byte_in, bytes_in, order_at}
 use Rattle.layout.proofs.Orders.{order-more}
 use Rattle.layout.proofs.order.load_order.Goals as goal
 
@@ -10,7 +10,7 @@ pub loop-i-preserved : goal.loop-i-preserved
 loop-i-preserved c =
     let v = c.loop-i.invariant in
     let e = c.append.ensures in (
-      order-more (byte_in c.args.work.now c.args.at) c.loop-i.i c.byte_at-n.result _ _ c.append.result v.0 (omega arith) e.answer c.byte_at-n.ensures e.order,
+      order-more (byte_in c.args.work.now order_at) 255 c.loop-i.i c.byte_at.result _ _ c.append.result v.0 (omega arith) e.answer c.byte_at.ensures e.order,
       e.slots ∙ v.1,
       e.limit ∙ v.2,
     )
@@ -19,4 +19,4 @@ pub returns : goal.returns
 returns c =
     let v = c.loop-i.invariant in
     let k : c.loop-i.i ≡ c.args.count = omega arith in
-    record { order = v.0 ∙ ap (bytes_in c.args.work.now c.args.at) k; slots = v.1; limit = v.2 }
+    record { order = v.0 ∙ ap (bytes_in c.args.work.now order_at) k; slots = v.1; limit = v.2 }
