@@ -120,9 +120,6 @@ pub table-by : (work : List ℕ) (z : Sizes) (s : Stack) → sizes_of z ≡ size
     slots_of s ≡ table_in work
 table-by work z s e q = q ∙ ap (λ n. packed 0 (map (entry_at work table_at) (range_with_len 0 n))) (windows-by work z e)
 
-pub not-count : (work : List ℕ) → 255 < word work 9 → stack_sound work ≡ false
-not-count work h = and_left _ _ (and_left _ _ (lt-leb (word work 9) 255 h))
-
 pub not-entries : (work : List ℕ) → entries_sound work ≡ false → stack_sound work ≡ false
 not-entries work e = and_left _ _ (and_right (leb (word work 9) 255) (entries_sound work) e)
 

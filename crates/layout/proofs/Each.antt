@@ -1,5 +1,5 @@
 -- Tests of each number below another, and of each number of a list.
-use Rattle.std.proofs.Common.{◌≡◌, ℕ, zero, suc, ◌+◌, ◌<◌, Bool, true, false, ◌&&◌, List, [], ◌∷◌, ◌++◌, map, length, get_or, sym, refl, ap, ◌∙◌, inl, inr, add-one, arith}
+use Rattle.std.proofs.Common.{◌≡◌, ℕ, zero, suc, ◌<◌, Bool, true, false, ◌&&◌, List, [], ◌∷◌, ◌++◌, map, length, get_or, sym, refl, ap, ◌∙◌, inl, inr, add-one, arith}
 use Rattle.std.proofs.lemmas.Bool.{cases_eq, and_parts, and_from, and_left, and_right}
 use Rattle.std.specs.List.{range_with_len, list_all}
 use Rattle.std.proofs.lemmas.List.FromFn.{map-range_with_len_more}
@@ -15,11 +15,6 @@ each_at f zero e k h = absurd (omega arith)
 each_at f (suc n) e k h =
     let p = and_parts (f n) (each f n) e in
     elim (cases_eq k n) [ inl q ↦ ap f q ∙ p.0 | inr q ↦ each_at f n p.1 k (omega arith) ]
-
-pub each-false : (f : ℕ → Bool) (n k : ℕ) → k < n → f k ≡ false → each f n ≡ false
-each-false f zero k h e = absurd (omega arith)
-each-false f (suc n) k h e =
-    elim (cases_eq k n) [ inl q ↦ and_left (f n) (each f n) (sym (ap f q) ∙ e) | inr q ↦ and_right (f n) (each f n) (each-false f n k (omega arith) e) ]
 
 pub each_same : (f g : ℕ → Bool) (n : ℕ) → ((k : ℕ) → k < n → f k ≡ g k) → each f n ≡ each g n
 each_same f g zero h = refl

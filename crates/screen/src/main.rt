@@ -3,7 +3,7 @@
 #![tactic(auto)]
 
 use anyhow::anyhow;
-use layout::sizes::Sizes;
+use layout::sizes::{Refusal, Sizes};
 use std::io::Read;
 use std::process::ExitCode;
 
@@ -43,7 +43,8 @@ fn run(rt: &HostRuntime) -> anyhow::Result<()> {
     let mut call = Vec::new(rt.alloc());
     rt.stdin().read_to_end(&mut call)?;
     if !call.is_empty() {
-        println!(rt; "refused 3 at 0")?;
+        let no = Refusal::Fault { place: 0 };
+        println!(rt; "{no}")?;
     }
     Ok(())
 }

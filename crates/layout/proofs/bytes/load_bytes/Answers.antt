@@ -1,5 +1,5 @@
-use Rattle.std.proofs.Common.{ap, ◌∙◌, arith}
-use Rattle.layout.specs.Head.{byte_in, bytes_in}
+use Rattle.std.proofs.Common.{arith}
+use Rattle.layout.specs.Head.{byte_in}
 use Rattle.layout.proofs.Orders.{order-more}
 use Rattle.layout.proofs.bytes.load_bytes.Goals as goal
 

@@ -2,7 +2,7 @@ use Rattle.std.proofs.Common.{◌≡◌, length, ap, subst, arith}
 use Rattle.protocol.specs.Meaning.{meaning}
 use Rattle.protocol.proofs.Adding.{added-as}
 use Rattle.layout.specs.Sizes.{sizes_of}
-use Rattle.layout.specs.State.{Good}
+use Rattle.layout.specs.State.{Good, clip_in}
 use Rattle.server.specs.Told.{told_bytes, AllCarried}
 use Rattle.server.proofs.Telling.{stepped, told-room}
 use Rattle.server.proofs.step.step.Goals as goal
@@ -42,7 +42,7 @@ returns c =
       desk = h.desk;
       sent_is = c.send-sent_end.ensures.sent c.args.call.now c.args.pictures.now (stepped c.args.z c.args.e c.args.s.now _ c.args.pictures.now _ c.args.call.now c.carry_out-told.result c.granted-taken.result c.granted-taken.ensures.value h);
       words_are = added-as _ _ _ _ _ _ (ap told_bytes h.told) w;
-      told = subst AllCarried h.told (c.granted-taken.ensures.fits c.args.s.now.clip.bytes c.tell-words_end.ensures.bytes);
+      told = subst AllCarried h.told (c.granted-taken.ensures.fits (clip_in c.args.s.now) c.tell-words_end.ensures.bytes);
       sent_low = c.send-sent_end.ensures.low;
       words_low = omega (arith, w.ends, told-room c.args.z c.args.s.now c.args.pictures.now e c.carry_out-told.result h.told);
     }
