@@ -16,11 +16,7 @@ impl Drop for Line<'_> {
 }
 
 // The bytes of a part in decimal, each behind a space.
-fn show_bytes<W: fmt::Write>(
-    f: &mut fmt::Formatter<W>,
-    bytes: &[u8],
-    part: Part,
-) -> fmt::Result {
+fn show_bytes<W: fmt::Write>(f: &mut fmt::Formatter<W>, bytes: &[u8], part: Part) -> fmt::Result {
     for b in bytes.iter().skip(part.from).take(part.count as usize) {
         write!(f, " {b}")?;
     }
