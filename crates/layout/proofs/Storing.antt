@@ -83,7 +83,7 @@ whole work size p =
 
 -- the first words, the bytes and the entries of a work are those of a state
 module _ (z : Sizes) (s : State) (w f : List ℕ) (front : Fronted z s f) (first : (k : ℕ) → k < 10 → word w k ≡ get_or f k 0)
-    (order : bytes_in w order_at s.stack.count ≡ order_of s.stack) (clip : bytes_in w clip_at s.clip.bytes.len ≡ clip_in s)
+    (order : bytes_in w order_at s.stack.order.len ≡ order_of s.stack) (clip : bytes_in w clip_at s.clip.bytes.len ≡ clip_in s)
     (table : (n : ℕ) → n < s.stack.limit → entry_at w table_at n ≡ bare (get_or (slots_of s.stack) n None))
     (flags : (n : ℕ) → n < s.stack.limit → flagged (word w (table_at + 3 * n)) ≡ true) where
   windows-is : word w 2 ≡ z.windows
@@ -137,7 +137,7 @@ module _ (z : Sizes) (s : State) (w f : List ℕ) (front : Fronted z s f) (first
       let there : (n : ℕ) → (get_or (map (view []) os) n nothing).there ≡ is_some (get_or os n None) = λ n. ap (λ (v : desk.Window). v.there) (view-at [] os n) ∙ view-there [] (get_or os n None) in
       whole w size (record {
         room = room-is w size (ap (λ y. start_refusal y size (length w)) laid-sizes ∙ starts-not (sizes_of z) size (length w) (record { fits = g.sizes; dots = g.room; room = room }));
-        count = omega (arith, first 9 (omega arith), front.count, s.stack.few);
+        count = omega (arith, first 9 (omega arith), front.count, s.stack.order.most);
         entries = each-true (λ n. flagged (word w (table_at + 3 * n)) && shaped (sizes_in w) (entry_at w table_at n)) (word w 2) (λ n h.
             let l : n < s.stack.limit = omega (arith, windows-is, g.limit) in
             and_from (flagged (word w (table_at + 3 * n))) (shaped (sizes_in w) (entry_at w table_at n)) (flags n l)
@@ -157,12 +157,12 @@ pub stored : (z : Sizes) (s : State) (bs os w0 w1 w2 w3 w4 f : List ℕ) → Fro
     ((k : ℕ) → (k < table_at) ⊎ (table_at + 3 * s.stack.limit ≤ k) → get_or w1 k 0 ≡ get_or w0 k 0) →
     bs ≡ clip_in s → bytes_in w2 clip_at (length bs) ≡ bs →
     ((k : ℕ) → (k < clip_at) ⊎ (clip_at + (length bs + 3) / 4 ≤ k) → get_or w2 k 0 ≡ get_or w1 k 0) →
-    os ≡ order_of s.stack → length os ≡ s.stack.count → bytes_in w3 order_at (length os) ≡ os →
+    os ≡ order_of s.stack → bytes_in w3 order_at (length os) ≡ os →
     ((k : ℕ) → (k < order_at) ⊎ (order_at + (length os + 3) / 4 ≤ k) → get_or w3 k 0 ≡ get_or w2 k 0) →
     ((k : ℕ) → k < length f → get_or w4 k 0 ≡ get_or f k 0) →
     ((k : ℕ) → length f ≤ k → get_or w4 k 0 ≡ get_or w3 k 0) →
     Stored (sizes_of z) s w0 w4
-stored z s bs os w0 w1 w2 w3 w4 f front long t tf tr eb c cr eo mb o or h r =
+stored z s bs os w0 w1 w2 w3 w4 f front long t tf tr eb c cr eo o or h r =
     record {
       sizes = laid-sizes z s w4 f front first order clip table flags;
       desk = laid-desk z s w4 f front first order clip table flags;
@@ -171,6 +171,9 @@ stored z s bs os w0 w1 w2 w3 w4 f front long t tf tr eb c cr eo mb o or h r =
       long = long;
     }
   where
+    mb : length os ≡ s.stack.order.len
+    mb = ap length eo ∙ length-take-le s.stack.order.len s.stack.order.items (omega (arith, s.stack.order.most, s.stack.order.whole))
+
     nb : length bs ≡ s.clip.bytes.len
     nb = ap length eb ∙ length-take-le s.clip.bytes.len s.clip.bytes.items (omega (arith, s.clip.bytes.most, s.clip.bytes.whole))
 
@@ -178,13 +181,13 @@ stored z s bs os w0 w1 w2 w3 w4 f front long t tf tr eb c cr eo mb o or h r =
     first k l = h k (omega (arith, front.long))
 
     mid : (k : ℕ) → 74 ≤ k → get_or w4 k 0 ≡ get_or w2 k 0
-    mid k l = r k (omega (arith, front.long)) ∙ or k (inr (omega (arith, s.stack.few, mb)))
+    mid k l = r k (omega (arith, front.long)) ∙ or k (inr (omega (arith, s.stack.order.most, mb)))
 
     late : (k : ℕ) → 1098 ≤ k → get_or w4 k 0 ≡ get_or w1 k 0
     late k l = mid k (omega arith) ∙ cr k (inr (omega (arith, s.clip.bytes.most, nb)))
 
-    order : bytes_in w4 order_at s.stack.count ≡ order_of s.stack
-    order = bytes_same w4 w3 order_at s.stack.count (λ k l m. r k (omega (arith, front.long))) ∙ ap (bytes_in w3 order_at) (sym mb) ∙ o ∙ eo
+    order : bytes_in w4 order_at s.stack.order.len ≡ order_of s.stack
+    order = bytes_same w4 w3 order_at s.stack.order.len (λ k l m. r k (omega (arith, front.long))) ∙ ap (bytes_in w3 order_at) (sym mb) ∙ o ∙ eo
 
     clip : bytes_in w4 clip_at s.clip.bytes.len ≡ clip_in s
     clip = bytes_same w4 w2 clip_at s.clip.bytes.len (λ k l m. mid k l) ∙ ap (bytes_in w2 clip_at) (sym nb) ∙ c ∙ eb

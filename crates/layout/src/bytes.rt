@@ -7,7 +7,7 @@ ghost use Rattle.layout.specs.Head.{byte_of as byte_in_word};
 use few::Few;
 
 // The byte i of those that begin at a word.
-pub(crate) fn byte_at(work: &[u32], at: usize, i: usize) -> u8
+fn byte_at(work: &[u32], at: usize, i: usize) -> u8
     requires { at + i / 4 < length work.now }
     ensures { result ≡ byte_in work.now at i }
 {
@@ -37,6 +37,7 @@ fn word_at(bytes: &[u8], i: usize) -> u32
 }
 
 // Writes bytes from a word on. The last word is filled up with zeros; all other words stay as they are.
+// (By index: of words written through chunks_mut a proof knows nothing.)
 pub(crate) fn store_bytes(bytes: &[u8], work: &mut [u32], at: usize)
     requires { at + (length bytes.now + 3) / 4 ≤ length work.old }
     ensures bytes { bytes_in work.new at (length bytes.now) ≡ bytes.now }

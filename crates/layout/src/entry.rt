@@ -18,7 +18,7 @@ struct Entry {
     sides: u32,
 }
 
-// A place on the desk from half a word.
+// A place on the desk from half a word. (No method of the library adds the two with a law on all of them.)
 fn unbias(v: u16) -> i16
     ensures { result ≡ pos v -ℤ pos 32768 }
 {
@@ -31,7 +31,7 @@ fn bias(v: i16) -> u16
     v.abs_diff(i16::MIN)
 }
 
-// The place that a word holds.
+// The place that a word holds. (A pair: it goes at once into the two fields of a window or of the state.)
 pub(crate) fn load_place(w: u32) -> (i16, i16)
     ensures across { result.0 ≡ place_of (low w) }
     ensures down { result.1 ≡ place_of (high w) }

@@ -9,18 +9,15 @@ use crate::halves::halves;
 use crate::{bytes, head};
 use stack::state::{Stack, Window};
 
-// Reads `count` numbers into an order that is empty.
+// Reads an order of `count` numbers.
 pub(crate) fn load_order(work: &[u32], count: usize, s: &mut Stack)
-    requires none { order_of s.old ≡ [] }
     requires few { count ≤ 255 }
     requires long { head_end ≤ length work.now }
     ensures order { order_of s.new ≡ bytes_in work.now order_at count }
     ensures slots { slots_of s.new ≡ slots_of s.old }
     ensures limit { s.new.limit ≡ s.old.limit }
 {
-    for i in 0..count {
-        let _ = s.append(bytes::byte_at(work, head::ORDER, i));
-    }
+    s.order = bytes::load_bytes(work, head::ORDER, count);
 }
 
 // How often each number stands in the order, or nothing where one is too high.
@@ -28,8 +25,8 @@ fn tally(s: &Stack) -> Option<[u8; 255]>
     ensures { Tallied s.now.limit (order_of s.now) result }
 {
     let mut seen = [0; 255];
-    for i in 0..s.count {
-        let n = s.order[i] as usize;
+    for n in s.order.as_slice() {
+        let n = usize::from(*n);
         if n >= s.limit {
             return None;
         }
