@@ -18,7 +18,7 @@ struct Entry {
     sides: u32,
 }
 
-// A place on the desk from half a word. (No method of the library adds the two with a law on all of them.)
+// A place on the desk from half a word. (The library has no sum of a signed and an unsigned number.)
 fn unbias(v: u16) -> i16
     ensures { result ≡ pos v -ℤ pos 32768 }
 {
