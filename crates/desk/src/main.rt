@@ -7,7 +7,7 @@ use anyhow::anyhow;
 use desktop::carry::carry_out;
 use desktop::look::dot_at;
 use layout::budget::Budget;
-use layout::sizes::Sizes;
+use layout::sizes::{Refusal, Sizes};
 use layout::state::State;
 use protocol::Kinds;
 use std::io::Read;
@@ -64,20 +64,22 @@ fn run(rt: &HostRuntime, z: Sizes, budget: Budget, call: &[u8]) -> anyhow::Resul
         }
         match protocol::read(call, at, programs, kinds) {
             Ok((e, end)) => {
-                let bytes = s.clip.bytes;
+                let clip = s.clip.bytes;
                 let told = carry_out(z, &mut s, pictures.as_mut_slice(), call, e);
                 if let Some(told) = told {
                     rt.println(Line {
                         told,
-                        bytes: &bytes,
+                        bytes: clip.as_slice(),
                     })?;
                 }
                 show(rt, z, &s, pictures.as_slice())?;
                 at = end;
             }
             Err(fault) => {
-                let place = fault.place;
-                println!(rt; "refused 3 at {place}")?;
+                let no = Refusal::Fault {
+                    place: fault.place as u32,
+                };
+                println!(rt; "{no}")?;
                 return Ok(());
             }
         }
@@ -95,7 +97,7 @@ fn start(rt: &HostRuntime) -> anyhow::Result<()> {
     let budget = match z.budget() {
         Ok(budget) => budget,
         Err(no) => {
-            println!(rt; "refused {} at {}", no.number(), no.place())?;
+            println!(rt; "{no}")?;
             return Ok(());
         }
     };

@@ -6,7 +6,7 @@ use std::fmt;
 pub struct Line<'a> {
     pub told: Told,
     // the clipboard's bytes, which a word may point to
-    pub bytes: &'a [u8; 4096],
+    pub bytes: &'a [u8],
 }
 
 impl Drop for Line<'_> {
@@ -16,11 +16,7 @@ impl Drop for Line<'_> {
 }
 
 // The bytes of a part in decimal, each behind a space.
-fn show_bytes<W: fmt::Write>(
-    f: &mut fmt::Formatter<W>,
-    bytes: &[u8; 4096],
-    part: Part,
-) -> fmt::Result {
+fn show_bytes<W: fmt::Write>(f: &mut fmt::Formatter<W>, bytes: &[u8], part: Part) -> fmt::Result {
     for b in bytes.iter().skip(part.from).take(part.count as usize) {
         write!(f, " {b}")?;
     }

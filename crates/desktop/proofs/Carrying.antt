@@ -13,7 +13,7 @@ use Rattle.stack.specs.View.{view, slots_of}
 use Rattle.stack.specs.Packed.{Packed}
 use Rattle.stack.proofs.Slots.{window-at}
 use Rattle.layout.specs.Sizes.{sizes_of}
-use Rattle.layout.specs.State.{desk_of, Good}
+use Rattle.layout.specs.State.{desk_of, Good, clip_in}
 use Rattle.layout.specs.declared.sizes.Sizes.{Sizes}
 use Rattle.layout.specs.declared.state.State.{State}
 use Rattle.stack.specs.declared.state.Window as table
@@ -76,8 +76,8 @@ does-is z d (key k) = refl
 does-is z d paste = refl
 
 -- what the desk does is done, the windows are as many and their pictures packed: then the event is carried out
-pub carried-to : (z : Sizes) (e : Event) (s s' : State) (p p' : List ℕ) (r : Option Told) → told_had s.clip.bytes r ≡ true → Good (sizes_of z) s (length p) → length p' ≡ length p → s'.stack.limit ≡ s.stack.limit →
-    Packed 0 (slots_of s'.stack) → desk_of s' p' ≡ (does (sizes_of z) (desk_of s p) e).0 → told_of s.clip.bytes r ≡ (does (sizes_of z) (desk_of s p) e).1 →
+pub carried-to : (z : Sizes) (e : Event) (s s' : State) (p p' : List ℕ) (r : Option Told) → told_had (clip_in s) r ≡ true → Good (sizes_of z) s (length p) → length p' ≡ length p → s'.stack.limit ≡ s.stack.limit →
+    Packed 0 (slots_of s'.stack) → desk_of s' p' ≡ (does (sizes_of z) (desk_of s p) e).0 → told_of (clip_in s) r ≡ (does (sizes_of z) (desk_of s p) e).1 →
     (taken (sizes_of z) (desk_of s p) e ≡ false → p' ≡ p) → CarriedOut (sizes_of z) e s p s' p' r
 carried-to z e s s' p p' r b g l m k d t f =
     let q : desk_of s' p' ≡ (after (sizes_of z) (desk_of s p) e).0 = d ∙ ap (λ (o : Desk × List (ℕ × Word)). o.0) (sym (does-is z (desk_of s p) e)) in
@@ -98,8 +98,8 @@ carried-to z e s s' p p' r b g l m k d t f =
     }
 
 -- with the pictures as they were
-pub carried : (z : Sizes) (e : Event) (s s' : State) (p p' : List ℕ) (r : Option Told) → told_had s.clip.bytes r ≡ true → Good (sizes_of z) s (length p) → p' ≡ p → s'.stack.limit ≡ s.stack.limit →
-    Packed 0 (slots_of s'.stack) → desk_of s' p' ≡ (does (sizes_of z) (desk_of s p) e).0 → told_of s.clip.bytes r ≡ (does (sizes_of z) (desk_of s p) e).1 → CarriedOut (sizes_of z) e s p s' p' r
+pub carried : (z : Sizes) (e : Event) (s s' : State) (p p' : List ℕ) (r : Option Told) → told_had (clip_in s) r ≡ true → Good (sizes_of z) s (length p) → p' ≡ p → s'.stack.limit ≡ s.stack.limit →
+    Packed 0 (slots_of s'.stack) → desk_of s' p' ≡ (does (sizes_of z) (desk_of s p) e).0 → told_of (clip_in s) r ≡ (does (sizes_of z) (desk_of s p) e).1 → CarriedOut (sizes_of z) e s p s' p' r
 carried z e s s' p p' r b g l m k d t = carried-to z e s s' p p' r b g (ap length l) m k d t (λ _. l)
 
 -- a request that is refused leaves all as it was

@@ -1,5 +1,5 @@
 -- Windows that have the keys or the pointer, and what they are told.
-use Rattle.std.proofs.Common.{◌≡◌, ℕ, suc, ◌-◌, ◌<◌, ◌≤◌, true, false, not, ◌&&◌, eqb, leb, List, [], ◌∷◌, length, get_or, take, ℤ, ◌-ℤ◌, Some, None, Option, sym, refl, ap, ◌∙◌, subst, arith, eq-eqb, ne_eqb, le-leb}
+use Rattle.std.proofs.Common.{◌≡◌, ℕ, suc, ◌-◌, ◌<◌, ◌≤◌, true, false, not, ◌&&◌, eqb, leb, List, [], ◌∷◌, length, get_or, ℤ, ◌-ℤ◌, Some, None, Option, sym, refl, ap, ◌∙◌, subst, arith, eq-eqb, ne_eqb, le-leb}
 use lib.Dec.{eqb-suc-zero}
 use borrow.Author.Tests.{lt-leb}
 use Rattle.std.proofs.lemmas.Bool.{both_ways, and_left, and_right}
@@ -15,6 +15,7 @@ use Rattle.stack.specs.Found.{Found}
 use Rattle.stack.specs.declared.state.Window.{Window}
 use Rattle.stack.proofs.Slots.{window-at}
 use Rattle.layout.specs.Sizes.{sizes_of}
+use Rattle.few.specs.Held.{held}
 use Rattle.layout.specs.State.{desk_of, clip_in, Good}
 use Rattle.layout.specs.declared.sizes.Sizes.{Sizes}
 use Rattle.layout.specs.declared.state.State.{State}
@@ -99,7 +100,7 @@ module _ (z : Sizes) (s : State) (p : List ℕ) (g : Good (sizes_of z) s (length
   unfolding does
   paste-unowned n e o = carried z paste s s p p None refl g refl refl g.packed refl (clip-unowned (desk_of s p) (numbered s.keys) n e o)
 
-  pub paste-told : (n o : ℕ) (w : Window) (q : Part) → numbered s.keys ≡ suc n → window (desk_of s p) n ≡ view p (Some w) → numbered s.clip.owner ≡ suc o → part 1 s.clip.bytes q ≡ clip_in s → lies 1 s.clip.bytes q ≡ true →
+  pub paste-told : (n o : ℕ) (w : Window) (q : Part) → numbered s.keys ≡ suc n → window (desk_of s p) n ≡ view p (Some w) → numbered s.clip.owner ≡ suc o → part 1 (clip_in s) q ≡ clip_in s → lies 1 (clip_in s) q ≡ true →
       CarriedOut (sizes_of z) paste s p s p (Some (record { program = w.owner; word = Pasted n q }))
   unfolding does
   paste-told n o w q e v c l b = carried z paste s s p p _ b g refl refl g.packed refl (clip-some p (desk_of s p) (numbered s.keys) n o w _ e v c l)
@@ -169,7 +170,7 @@ offer-yes p d c m n w l e v h k =
     rw (a, eq-eqb (window d (m - 1)).owner c o, le-leb (length l) 4096 k)
 
 pub offer-taken : (z : Sizes) (s : State) (p : List ℕ) (c n : ℕ) (w : Window) (l : List ℕ) (k : Clipboard) → Good (sizes_of z) s (length p) → numbered s.keys ≡ suc n → window (desk_of s p) n ≡ view p (Some w) →
-    w.owner ≡ c → length l ≤ 4096 → k.owner ≡ Some c → take k.len k.bytes ≡ l →
+    w.owner ≡ c → length l ≤ 4096 → k.owner ≡ Some c → held k.bytes ≡ l →
     CarriedOut (sizes_of z) (offer c l) s p (record { stack = s.stack; x = s.x; y = s.y; keys = s.keys; held = s.held; clip = k }) p (answered c true)
 unfolding does with_clip
 offer-taken z s p c n w l k g e v h len o b =

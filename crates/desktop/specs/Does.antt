@@ -6,7 +6,7 @@ use Rattle.model.specs.Desk.{Sizes, Event, after}
 use Rattle.model.specs.System.{taken}
 use Rattle.protocol.specs.Meaning.{word_meaning, word_had}
 use Rattle.layout.specs.declared.state.State.{State}
-use Rattle.layout.specs.State.{desk_of, Good}
+use Rattle.layout.specs.State.{desk_of, clip_in, Good}
 use Rattle.protocol.specs.declared.types.Word.TheVariants.{Done, No}
 use Rattle.desktop.specs.declared.told.Told.{Told}
 
@@ -28,11 +28,11 @@ answered c taken = Some (record { program = c; word = pick taken Done No })
 -- lent pictures as they were, to the last element
 pub record Carried (z : Sizes) (e : Event) (s : State) (p : List ℕ) (s' : State) (p' : List ℕ) (r : Option Told) : Type 0 where
   pub desk : desk_of s' p' ≡ (after z (desk_of s p) e).0
-  pub told : told_of s.clip.bytes r ≡ (after z (desk_of s p) e).1
+  pub told : told_of (clip_in s) r ≡ (after z (desk_of s p) e).1
   pub good : Good z s' (length p')
   pub still : taken z (desk_of s p) e ≡ false → p' ≡ p
 
 -- the same, and the bytes that are told lie in the clipboard as it was
 pub record CarriedOut (z : Sizes) (e : Event) (s : State) (p : List ℕ) (s' : State) (p' : List ℕ) (r : Option Told) : Type 0 where
   pub carried : Carried z e s p s' p' r
-  pub had : told_had s.clip.bytes r ≡ true
+  pub had : told_had (clip_in s) r ≡ true

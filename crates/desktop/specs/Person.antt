@@ -1,5 +1,6 @@
 -- Windows that have the keys or the pointer, and the clipboard.
-use Rattle.std.specs.Prelude.{◌≡◌, ℕ, List, take, ℤ, Some, None, Option, slice_index_or}
+use Rattle.std.specs.Prelude.{◌≡◌, ℕ, List, ℤ, Some, None, Option, slice_index_or}
+use Rattle.few.specs.Held.{held}
 use Rattle.protocol.specs.Meaning.{part}
 use Rattle.protocol.specs.declared.types.Part.{Part}
 use Rattle.stack.specs.View.{slots_of}
@@ -29,4 +30,4 @@ Heard s x y r = HeardBy s s.held x y r
 -- a clipboard that a program offered, with a part of some bytes
 abbrev pub Copied : List ℕ → ℕ → Part → Option Clipboard → Type 0
 Copied bs c q None = ⊥
-Copied bs c q (Some k) = (k.owner ≡ Some c) × (take k.len k.bytes ≡ part 1 bs q)
+Copied bs c q (Some k) = (k.owner ≡ Some c) × (held k.bytes ≡ part 1 bs q)

@@ -1,5 +1,6 @@
 // What the person does: the pointer, the button, keys and the wish to paste; and the clipboard that programs offer for it.
-ghost use Rattle.std.specs.Prelude.{◌≡◌, ℕ, ◌≤◌, true, false, List, length, take, ◌-ℤ◌};
+ghost use Rattle.std.specs.Prelude.{◌≡◌, ℕ, ◌≤◌, true, false, List, length, ◌-ℤ◌};
+ghost use Rattle.few.specs.Held.{held};
 ghost use Rattle.model.specs.Desk.{clamp};
 ghost use Rattle.model.specs.Desk.{offer as offering};
 ghost use Rattle.model.specs.Desk.{point as pointing};
@@ -13,6 +14,7 @@ ghost use Rattle.desktop.specs.Does.{CarriedOut};
 ghost use Rattle.desktop.specs.Person.{Known, Heard, Copied};
 
 use crate::told::{Told, answer};
+use few::Few;
 use layout::sizes::Sizes;
 use layout::state::{Clipboard, State};
 use protocol::{Part, Word};
@@ -46,12 +48,12 @@ pub fn key(s: &State, key: u32) -> Option<Told>
 
 // Where the clipboard's bytes lie.
 fn whole(clip: &Clipboard) -> Part
-    ensures value { part 1 clip.now.bytes result ≡ take clip.now.len clip.now.bytes }
-    ensures there { lies 1 clip.now.bytes result ≡ true }
+    ensures value { part 1 (held clip.now.bytes) result ≡ held clip.now.bytes }
+    ensures there { lies 1 (held clip.now.bytes) result ≡ true }
 {
     Part {
         from: 0,
-        count: clip.len as u16,
+        count: clip.bytes.len as u16,
     }
 }
 
@@ -167,17 +169,10 @@ pub fn point(z: Sizes, s: &mut State, x: i16, y: i16) -> Option<Told>
 fn offered(call: &[u8], program: u8, part: Part) -> Option<Clipboard>
     ensures { lies 1 call.now part ≡ true → part.count ≤ 4096 → Copied call.now program part result }
 {
-    let from = part.from;
-    let len = part.count as usize;
-    if len > 4096 || from > call.len() || len > call.len() - from {
-        return None;
-    }
-    let mut bytes = [0; 4096];
-    bytes[0..len].copy_from_slice(&call[from..from + len]);
+    let bytes = call.get(part.from..)?.get(..usize::from(part.count))?;
     Some(Clipboard {
         owner: Some(program),
-        len,
-        bytes,
+        bytes: Few::from_slice(bytes, 0)?,
     })
 }
 

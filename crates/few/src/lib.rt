@@ -1,7 +1,7 @@
 // A short list in an array: what a Vec is where no memory may be asked for.
 #![tactic(auto)]
 
-ghost use Rattle.std.specs.Prelude.{◌≡◌, ℕ, [], ◌∷◌, ◌++◌, length, nat_lt};
+ghost use Rattle.std.specs.Prelude.{◌≡◌, ℕ, [], ◌∷◌, ◌++◌, length, is_some, IfSome, nat_lt, nat_le};
 ghost use Rattle.few.specs.Held.{held, pick};
 
 mod list;
@@ -17,6 +17,22 @@ impl<T: Copy, const N: usize> Few<T, N> {
             items: [blank; N],
             len: 0,
         }
+    }
+
+    // The elements of a slice, where there is room for them; the rest of the array is filled with `blank`.
+    pub fn from_slice(xs: &[T], blank: T) -> Option<Self>
+        ensures answer { is_some result ≡ nat_le (length xs.now) N }
+        ensures items { IfSome result (λ f. held f ≡ xs.now) }
+    {
+        if xs.len() > N {
+            return None;
+        }
+        let mut items = [blank; N];
+        items[..xs.len()].copy_from_slice(xs);
+        Some(Few {
+            items,
+            len: xs.len(),
+        })
     }
 
     // The elements.

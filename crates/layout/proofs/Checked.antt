@@ -1,5 +1,6 @@
 -- What the tests of a work's head come to.
-use Rattle.std.proofs.Common.{◌≡◌, ℕ, ◌+◌, ◌*◌, ◌<◌, ◌≤◌, true, false, ◌&&◌, leb, List, [], map, length, is_some, Some, None, Option, sym, refl, ap, ◌∙◌, inl, inr, arith}
+use Rattle.std.proofs.Common.{◌≡◌, ℕ, ◌+◌, ◌*◌, ◌<◌, ◌≤◌, Bool, not, true, false, ◌&&◌, leb, List, [], map, length, is_some, Some, None, Option, sym, refl, ap, ◌∙◌, subst, inl, inr, arith}
+use Rattle.std.specs.Bool.{then_some}
 use Rattle.std.specs.List.{range_with_len}
 use Rattle.std.proofs.lemmas.Bool.{leb-true, le-leb, lt-leb, cases_Bool, both_ways, and_from, and_left, and_right}
 use Rattle.model.specs.Basics.{pick}
@@ -15,7 +16,9 @@ use Rattle.layout.specs.declared.budget.Lent.{Lent}
 use Rattle.layout.specs.declared.budget.Used.{Used}
 use Rattle.layout.specs.Budget.{first, short, start_refusal, event_refusal, work_room, sent_room, words_room}
 use Rattle.layout.specs.Head.{table_at, word, entry_at, flagged, shaped, each, orderly, sizes_in, table_in, order_in, entries_sound, stack_sound, room_sound}
-use Rattle.layout.specs.Loads.{StackedAs}
+use Rattle.layout.specs.declared.sizes.Refusal.{Refusal}
+use Rattle.layout.specs.Refusals.{numbered_one, numbered}
+use Rattle.layout.specs.Loads.{StackedAs, Headed, Sized}
 use Rattle.layout.proofs.Ranges.{ranges}
 
 -- what a start that is not refused has
@@ -78,6 +81,16 @@ too_short work size h =
 pub room-not : (work : List ℕ) (size : ℕ) (r : ℕ × ℕ) → start_refusal (sizes_in work) size (length work) ≡ Some r → room_sound work size ≡ false
 room-not work size r e = ap (λ o. pick (is_some o) false true) e
 
+pub sized : (work : List ℕ) (size : ℕ) (z : Sizes) (o : Option Refusal) (b : Bool) → Headed work (Some z) → numbered o ≡ start_refusal (sizes_of z) size (length work) →
+    is_some o ≡ not b → Sized work size (then_some b z)
+unfolding sizes_in FitsSizes
+sized work size z None true h e q =
+    let r : start_refusal (sizes_in work) size (length work) ≡ None = rw (← h.1) (sym e) in
+    record { sizes = h.1; room = r; long = h.0; few = subst (λ y. y.windows ≤ 255) (sym h.1) (starts (sizes_in work) size (length work) r).fits.4 }
+sized work size z (Some r) false h e q = room-not work size (numbered_one r) (ap (λ y. start_refusal y size (length work)) (sym h.1) ∙ sym e)
+sized work size z None false h e q = cc
+sized work size z (Some r) true h e q = cc
+
 pub room-is : (work : List ℕ) (size : ℕ) → start_refusal (sizes_in work) size (length work) ≡ None → room_sound work size ≡ true
 room-is work size e = ap (λ o. pick (is_some o) false true) e
 
@@ -106,9 +119,6 @@ windows-by work z e = ap (λ (y : desk.Sizes). y.windows) e
 pub table-by : (work : List ℕ) (z : Sizes) (s : Stack) → sizes_of z ≡ sizes_in work → slots_of s ≡ packed 0 (map (entry_at work table_at) (range_with_len 0 z.windows)) →
     slots_of s ≡ table_in work
 table-by work z s e q = q ∙ ap (λ n. packed 0 (map (entry_at work table_at) (range_with_len 0 n))) (windows-by work z e)
-
-pub not-count : (work : List ℕ) → 255 < word work 9 → stack_sound work ≡ false
-not-count work h = and_left _ _ (and_left _ _ (lt-leb (word work 9) 255 h))
 
 pub not-entries : (work : List ℕ) → entries_sound work ≡ false → stack_sound work ≡ false
 not-entries work e = and_left _ _ (and_right (leb (word work 9) 255) (entries_sound work) e)

@@ -10,10 +10,10 @@ use Rattle.stack.specs.declared.state.Window as slot
 use Rattle.layout.specs.declared.state.State.{State}
 use Rattle.layout.specs.State.{desk_of, Good}
 
-pub bare-desk : (z : Sizes) (n : ℕ) (ws : List Window) (o : List ℕ) → z.windows ≡ n → ws ≡ replicate n nothing → o ≡ [] →
-    ◌≡◌ {A = Desk} (record { windows = ws; order = o; px = pos 0; py = pos 0; keys = 0; held = 0; clip_of = 0; clip = [] }) (empty z)
+pub bare-desk : (z : Sizes) (n : ℕ) (ws : List Window) (o bs : List ℕ) → z.windows ≡ n → ws ≡ replicate n nothing → o ≡ [] → bs ≡ [] →
+    ◌≡◌ {A = Desk} (record { windows = ws; order = o; px = pos 0; py = pos 0; keys = 0; held = 0; clip_of = 0; clip = bs }) (empty z)
 unfolding empty
-bare-desk z n ws o e w q = λ i. record {
+bare-desk z n ws o bs e w q c = λ i. record {
   windows = (w ∙ ap (λ m. replicate m nothing) (sym e)) i;
   order = q i;
   px = pos 0;
@@ -21,7 +21,7 @@ bare-desk z n ws o e w q = λ i. record {
   keys = 0;
   held = 0;
   clip_of = 0;
-  clip = [];
+  clip = c i;
 }
 
 packed_none : (at n : ℕ) → Packed at (replicate n None)

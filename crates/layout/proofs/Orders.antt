@@ -1,22 +1,22 @@
 -- The order: numbers read one after another, and how often each stands in it.
-use Rattle.std.proofs.Common.{◌≡◌, ℕ, ◌+◌, ◌-◌, ◌<◌, ◌≤◌, Bool, true, false, ◌&&◌, eqb, ltb, List, [], ◌∷◌, ◌++◌, map, length, get_or, take, set, replicate, is_some, None, Option, sym, refl, ap, ◌∙◌, inl, inr, arith}
+use Rattle.std.proofs.Common.{◌≡◌, ℕ, ◌+◌, ◌<◌, ◌≤◌, Bool, true, false, ◌&&◌, eqb, ltb, List, [], ◌∷◌, ◌++◌, map, length, get_or, take, set, replicate, is_some, None, Option, sym, refl, ap, ◌∙◌, inl, inr, arith}
 use Rattle.std.specs.List.{range_with_len}
 use Rattle.std.proofs.lemmas.List.FromFn.{length-map-range_with_len, map-range_with_len_more}
-use Rattle.std.proofs.lemmas.List.{take_more, get_or-set_same, get_or-set_other, length-set, get_or-replicate, length-replicate, get_or_past}
-use Rattle.std.proofs.lemmas.Bool.{lt-ltb, ne_eqb, cases_eq, cases_lt, both_ways}
+use Rattle.std.proofs.lemmas.List.{take_more, get_or-set_same, get_or-set_other, length-set, get_or-replicate, length-replicate}
+use Rattle.std.proofs.lemmas.Bool.{lt-ltb, cases_eq}
 use Rattle.model.specs.Basics.{pick, bit}
 use Rattle.model.specs.Promise.{times, one}
 use Rattle.model.proofs.Order.{times-append, times-single-same, times-single-other, one_same, one-other}
 use Rattle.stack.specs.declared.state.Window.{Window}
-use Rattle.layout.specs.Head.{each, all_of, orderly, handed}
+use Rattle.layout.specs.Head.{each, all_of, orderly}
 use Rattle.layout.specs.Loads.{Tally}
 use Rattle.layout.proofs.Each.{each_same, all_push}
 
-pub order-more : (f : ℕ → ℕ) (i n : ℕ) (o new : List ℕ) (r : Bool) → o ≡ map f (range_with_len 0 i) → i < 255 → r ≡ ltb (length o) 255 → n ≡ f i → new ≡ pick r (o ++ n ∷ []) o →
+pub order-more : (f : ℕ → ℕ) (most i n : ℕ) (o new : List ℕ) (r : Bool) → o ≡ map f (range_with_len 0 i) → i < most → r ≡ ltb (length o) most → n ≡ f i → new ≡ pick r (o ++ n ∷ []) o →
     new ≡ map f (range_with_len 0 (i + 1))
-order-more f i n o new r e h t q g =
+order-more f most i n o new r e h t q g =
     let l : length o ≡ i = ap length e ∙ length-map-range_with_len f 0 i in
-    let b : r ≡ true = t ∙ lt-ltb (length o) 255 (omega arith) in
+    let b : r ≡ true = t ∙ lt-ltb (length o) most (omega arith) in
     g ∙ ap (λ x. pick x (o ++ n ∷ []) o) b ∙ ap (λ x. o ++ x ∷ []) q ∙ ap (λ us. us ++ f i ∷ []) e ∙ sym (map-range_with_len_more f 0 i i (omega arith))
 
 one-most : (n m : ℕ) → one n m ≤ 1
@@ -64,15 +64,3 @@ orderly-not os o limit f e = rw e (rw f (and-false _))
     and-false : (b : Bool) → false ≡ (b && false)
     and-false true = refl
     and-false false = refl
-
--- a hand that holds a window
-pub hand-is : (os : List (Option Window)) (k : ℕ) (o : Option Window) (r : Bool) → (k ≡ 0 → ⊥) → o ≡ get_or os (k - 1) None → r ≡ is_some o → r ≡ handed os k
-hand-is os k o r ne e q = rw (ne_eqb k 0 ne) (q ∙ ap is_some e)
-
--- a window that is there has a number below the length
-pub some-low : (os : List (Option Window)) (n : ℕ) → is_some (get_or os n None) ≡ true → n < length os
-some-low os n e =
-    elim (cases_lt n (length os)) [ inl h ↦ h | inr h ↦ absurd (both_ways (is_some (get_or os n None)) (ap is_some (get_or_past os n None h)) e) ]
-
-pub hand-small : (os : List (Option Window)) (k : ℕ) (o : Option Window) (r : Bool) → (k ≡ 0 → ⊥) → o ≡ get_or os (k - 1) None → r ≡ is_some o → length os ≤ 255 → r ≡ true → k ≤ 255
-hand-small os k o r ne e q l t = let h = some-low os (k - 1) (ap is_some (sym e) ∙ sym q ∙ t) in omega arith

@@ -1,5 +1,5 @@
 -- Bytes in words: what a loop over them has read or written.
-use Rattle.std.proofs.Common.{◌≡◌, ℕ, zero, suc, ◌+◌, ◌-◌, ◌*◌, ◌/◌, ◌%◌, ◌<◌, ◌≤◌, List, map, length, get_or, take, drop, set, sym, ap, ◌∙◌, inl, inr, arith}
+use Rattle.std.proofs.Common.{◌≡◌, ℕ, ◌+◌, ◌-◌, ◌*◌, ◌/◌, ◌%◌, ◌<◌, ◌≤◌, List, map, length, get_or, take, drop, set, sym, ap, ◌∙◌, inl, inr, arith}
 use Rattle.std.specs.List.{range_with_len}
 use borrow.Rule.Slice.PartMut.{put_mid}
 use Rattle.std.proofs.lemmas.List.{get_or-set_same, get_or-set_other, get_or-take, get_or-drop, length-take-le, length-drop, ext_get_or}
@@ -11,14 +11,6 @@ use Rattle.layout.specs.Head.{byte_of, byte_in, bytes_in}
 -- a list whose first n elements are known
 pub known-front : {X : Type 0} (f : ℕ → X) (xs : List X) (n : ℕ) (d : X) → n ≤ length xs → ((k : ℕ) → k < n → get_or xs k d ≡ f k) → take n xs ≡ map f (range_with_len 0 n)
 known-front f xs n d h e = fill_by_all f (take n xs) n d (length-take-le n xs h) (λ k l. get_or-take n xs k d l ∙ e k l)
-
--- what holds of the four bytes of a word
-pub four : (P : ℕ → Type 0) → P 0 → P 1 → P 2 → P 3 → (j : ℕ) → j < 4 → P j
-four P a b c d zero h = a
-four P a b c d (suc zero) h = b
-four P a b c d (suc (suc zero)) h = c
-four P a b c d (suc (suc (suc zero))) h = d
-four P a b c d (suc (suc (suc (suc j)))) h = absurd (omega arith)
 
 -- one word more is written
 pub word_more : (work bytes : List ℕ) (at n v count : ℕ) → at + n < length work → ((k : ℕ) → k < 4 * n → k < count → byte_in work at k ≡ get_or bytes k 0) →

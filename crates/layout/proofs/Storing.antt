@@ -1,7 +1,7 @@
 -- A state that was stored: what the head then holds, and that it passes the tests again.
 use Rattle.std.proofs.Common.{◌≡◌, ℕ, zero, suc, ◌+◌, ◌-◌, ◌*◌, ◌/◌, ◌<◌, ◌≤◌, true, ◌&&◌, eqb, ltb, leb, ◌⊎◌, List, [], ◌∷◌, map, length, get_or, is_some, Some, None, Option, sym, refl, ap, ◌∙◌, subst, inl, inr, arith}
 use Rattle.std.specs.List.{range_with_len}
-use Rattle.std.proofs.lemmas.List.{length-map, get_or-map, get_or_past}
+use Rattle.std.proofs.lemmas.List.{length-map, length-take-le, get_or-map, get_or_past}
 use Rattle.std.proofs.lemmas.List.FromFn.{fill_by_all}
 use Rattle.std.proofs.lemmas.Bool.{le-leb, lt-ltb, eq-eqb, cases_lt, and_from, or_right}
 use Rattle.model.specs.Basics.{bit}
@@ -83,7 +83,7 @@ whole work size p =
 
 -- the first words, the bytes and the entries of a work are those of a state
 module _ (z : Sizes) (s : State) (w f : List ℕ) (front : Fronted z s f) (first : (k : ℕ) → k < 10 → word w k ≡ get_or f k 0)
-    (order : bytes_in w order_at s.stack.order.len ≡ order_of s.stack) (clip : bytes_in w clip_at s.clip.len ≡ clip_in s)
+    (order : bytes_in w order_at s.stack.order.len ≡ order_of s.stack) (clip : bytes_in w clip_at s.clip.bytes.len ≡ clip_in s)
     (table : (n : ℕ) → n < s.stack.limit → entry_at w table_at n ≡ bare (get_or (slots_of s.stack) n None))
     (flags : (n : ℕ) → n < s.stack.limit → flagged (word w (table_at + 3 * n)) ≡ true) where
   windows-is : word w 2 ≡ z.windows
@@ -145,24 +145,24 @@ module _ (z : Sizes) (s : State) (w f : List ℕ) (front : Fronted z s f) (first
             ∙ shaped_from (sizes_of z) [] (get_or os n None) (subst (λ (v : desk.Window). ShapedIf (sizes_of z) v) (view-at [] os n) (sound.shaped n))));
         order = (λ i. orderly (t i) (order_is i)) ∙ orderly_from os (order_of s.stack) (λ n. sound.once n ∙ ap bit (there n));
         few = omega (arith, ap (λ us. area (map (view []) us)) t, sound.few, first 5 (omega arith), front.dots);
-        clip = and_from _ _ (le-leb (low (word w 8)) 4096 (omega (arith, ap low (first 8 (omega arith)), front.len, s.clip.few))) (le-leb (high (word w 8)) 256 (omega (arith, ap high (first 8 (omega arith)), front.owner_small)));
+        clip = and_from _ _ (le-leb (low (word w 8)) 4096 (omega (arith, ap low (first 8 (omega arith)), front.len, s.clip.bytes.most))) (le-leb (high (word w 8)) 256 (omega (arith, ap high (first 8 (omega arith)), front.owner_small)));
         keys = (λ i. handed (t i) ((ap low (first 7 (omega arith)) ∙ front.keys) i)) ∙ handed-from os (numbered s.keys) (λ n q. sym (there n) ∙ sound.keys_there n q);
         held = (λ i. handed (t i) ((ap high (first 7 (omega arith)) ∙ front.held) i)) ∙ handed-from os (numbered s.held) (λ n q. sym (there n) ∙ sound.held_there n q);
       })
 
 -- the four writes of a store, one after another. The places are variables: at numerals the lists would be unfolded
-pub stored : (z : Sizes) (s : State) (w0 w1 w2 w3 w4 f : List ℕ) → Fronted z s f → length w4 ≡ length w0 →
+pub stored : (z : Sizes) (s : State) (bs os w0 w1 w2 w3 w4 f : List ℕ) → Fronted z s f → length w4 ≡ length w0 →
     ((n : ℕ) → n < s.stack.limit → entry_at w1 table_at n ≡ bare (get_or (slots_of s.stack) n None)) →
     ((n : ℕ) → n < s.stack.limit → flagged (word w1 (table_at + 3 * n)) ≡ true) →
     ((k : ℕ) → (k < table_at) ⊎ (table_at + 3 * s.stack.limit ≤ k) → get_or w1 k 0 ≡ get_or w0 k 0) →
-    bytes_in w2 clip_at s.clip.len ≡ clip_in s →
-    ((k : ℕ) → (k < clip_at) ⊎ (clip_at + (s.clip.len + 3) / 4 ≤ k) → get_or w2 k 0 ≡ get_or w1 k 0) →
-    bytes_in w3 order_at s.stack.order.len ≡ order_of s.stack →
-    ((k : ℕ) → (k < order_at) ⊎ (order_at + (s.stack.order.len + 3) / 4 ≤ k) → get_or w3 k 0 ≡ get_or w2 k 0) →
+    bs ≡ clip_in s → bytes_in w2 clip_at (length bs) ≡ bs →
+    ((k : ℕ) → (k < clip_at) ⊎ (clip_at + (length bs + 3) / 4 ≤ k) → get_or w2 k 0 ≡ get_or w1 k 0) →
+    os ≡ order_of s.stack → bytes_in w3 order_at (length os) ≡ os →
+    ((k : ℕ) → (k < order_at) ⊎ (order_at + (length os + 3) / 4 ≤ k) → get_or w3 k 0 ≡ get_or w2 k 0) →
     ((k : ℕ) → k < length f → get_or w4 k 0 ≡ get_or f k 0) →
     ((k : ℕ) → length f ≤ k → get_or w4 k 0 ≡ get_or w3 k 0) →
     Stored (sizes_of z) s w0 w4
-stored z s w0 w1 w2 w3 w4 f front long t tf tr c cr o or h r =
+stored z s bs os w0 w1 w2 w3 w4 f front long t tf tr eb c cr eo o or h r =
     record {
       sizes = laid-sizes z s w4 f front first order clip table flags;
       desk = laid-desk z s w4 f front first order clip table flags;
@@ -171,20 +171,26 @@ stored z s w0 w1 w2 w3 w4 f front long t tf tr c cr o or h r =
       long = long;
     }
   where
+    mb : length os ≡ s.stack.order.len
+    mb = ap length eo ∙ length-take-le s.stack.order.len s.stack.order.items (omega (arith, s.stack.order.most, s.stack.order.whole))
+
+    nb : length bs ≡ s.clip.bytes.len
+    nb = ap length eb ∙ length-take-le s.clip.bytes.len s.clip.bytes.items (omega (arith, s.clip.bytes.most, s.clip.bytes.whole))
+
     first : (k : ℕ) → k < 10 → word w4 k ≡ get_or f k 0
     first k l = h k (omega (arith, front.long))
 
     mid : (k : ℕ) → 74 ≤ k → get_or w4 k 0 ≡ get_or w2 k 0
-    mid k l = r k (omega (arith, front.long)) ∙ or k (inr (omega (arith, s.stack.order.most)))
+    mid k l = r k (omega (arith, front.long)) ∙ or k (inr (omega (arith, s.stack.order.most, mb)))
 
     late : (k : ℕ) → 1098 ≤ k → get_or w4 k 0 ≡ get_or w1 k 0
-    late k l = mid k (omega arith) ∙ cr k (inr (omega (arith, s.clip.few)))
+    late k l = mid k (omega arith) ∙ cr k (inr (omega (arith, s.clip.bytes.most, nb)))
 
     order : bytes_in w4 order_at s.stack.order.len ≡ order_of s.stack
-    order = bytes_same w4 w3 order_at s.stack.order.len (λ k l m. r k (omega (arith, front.long))) ∙ o
+    order = bytes_same w4 w3 order_at s.stack.order.len (λ k l m. r k (omega (arith, front.long))) ∙ ap (bytes_in w3 order_at) (sym mb) ∙ o ∙ eo
 
-    clip : bytes_in w4 clip_at s.clip.len ≡ clip_in s
-    clip = bytes_same w4 w2 clip_at s.clip.len (λ k l m. mid k l) ∙ c
+    clip : bytes_in w4 clip_at s.clip.bytes.len ≡ clip_in s
+    clip = bytes_same w4 w2 clip_at s.clip.bytes.len (λ k l m. mid k l) ∙ ap (bytes_in w2 clip_at) (sym nb) ∙ c ∙ eb
 
     table : (n : ℕ) → n < s.stack.limit → entry_at w4 table_at n ≡ bare (get_or (slots_of s.stack) n None)
     table n l = entry-same w4 w1 table_at n (late (table_at + 3 * n) (omega arith)) (late (table_at + 3 * n + 1) (omega arith)) (late (table_at + 3 * n + 2) (omega arith)) ∙ t n l

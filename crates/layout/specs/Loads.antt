@@ -1,6 +1,7 @@
 -- What parts of a load give.
-use Rattle.std.specs.Prelude.{◌≡◌, ℕ, ◌<◌, ◌≤◌, true, false, not, ◌&&◌, List, length, take, is_some, Some, None, Option, nat_le, nat_lt, slice_index}
+use Rattle.std.specs.Prelude.{◌≡◌, ℕ, ◌<◌, ◌≤◌, true, false, not, ◌&&◌, List, length, is_some, Some, None, Option, nat_le, nat_lt, slice_index}
 use Rattle.model.specs.Promise.{times}
+use Rattle.few.specs.Held.{held}
 use Rattle.stack.specs.declared.state.Window.{Window}
 use Rattle.stack.specs.declared.state.Stack.{Stack}
 use Rattle.stack.specs.View.{numbered, slots_of, order_of}
@@ -23,6 +24,15 @@ abbrev pub Tallied : ℕ → List ℕ → Option (List ℕ) → Type 0
 Tallied limit o None = all_of (λ n. nat_lt n limit) o ≡ false
 Tallied limit o (Some seen) = Tally limit o seen
 
+-- a window that is there, or none, from its number + 1, or 0
+pub record HandAs (os : List (Option Window)) (k : ℕ) (n : Option ℕ) : Type 0 where
+  pub sound : handed os k ≡ true
+  pub number : numbered n ≡ k
+
+abbrev pub Hand : List (Option Window) → ℕ → Option (Option ℕ) → Type 0
+Hand os k None = handed os k ≡ false
+Hand os k (Some n) = HandAs os k n
+
 -- the windows that have the keys and the pointer, from their word
 pub record Hands (os : List (Option Window)) (w : ℕ) (keys held : Option ℕ) : Type 0 where
   pub sound : (handed os (low w) && handed os (high w)) ≡ true
@@ -37,7 +47,7 @@ Handed os w (Some h) = Hands os w h.0 h.1
 pub record Clipped (work : List ℕ) (at w : ℕ) (c : Clipboard) : Type 0 where
   pub sound : clipped w ≡ true
   pub owner_is : numbered c.owner ≡ high w
-  pub bytes_are : take c.len c.bytes ≡ bytes_in work at (low w)
+  pub bytes_are : held c.bytes ≡ bytes_in work at (low w)
 
 abbrev pub Clipping : List ℕ → ℕ → ℕ → Option Clipboard → Type 0
 Clipping work at w None = clipped w ≡ false

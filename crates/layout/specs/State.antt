@@ -1,14 +1,15 @@
 -- What the state means: with what the lent pictures hold, a desk.
-use Rattle.std.specs.Prelude.{◌≡◌, ℕ, ◌≤◌, List, take}
+use Rattle.std.specs.Prelude.{◌≡◌, ℕ, ◌≤◌, List}
 use Rattle.model.specs.Desk.{Desk, Sizes}
 use Rattle.model.specs.Promise.{FitsSizes}
 use Rattle.model.specs.Sound.{Sound}
+use Rattle.few.specs.Held.{held}
 use Rattle.stack.specs.View.{slots_of, windows_of, order_of, numbered}
 use Rattle.stack.specs.Packed.{Packed}
 use Rattle.layout.specs.declared.state.State.{State}
 
 abbrev pub clip_in : State → List ℕ
-clip_in s = take s.clip.len s.clip.bytes
+clip_in s = held s.clip.bytes
 
 abbrev pub desk_of : State → List ℕ → Desk
 desk_of s p =

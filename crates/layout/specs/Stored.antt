@@ -27,7 +27,7 @@ pub record Fronted (z : Sizes) (s : State) (f : List ℕ) : Type 0 where
   pub down : place (high (slice_index f 6)) ≡ s.y
   pub keys : low (slice_index f 7) ≡ numbered s.keys
   pub held : high (slice_index f 7) ≡ numbered s.held
-  pub len : low (slice_index f 8) ≡ s.clip.len
+  pub len : low (slice_index f 8) ≡ s.clip.bytes.len
   pub owner : high (slice_index f 8) ≡ numbered s.clip.owner
   pub owner_small : high (slice_index f 8) ≤ 256
   pub count : slice_index_or f 9 0 ≡ s.stack.order.len

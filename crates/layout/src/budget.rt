@@ -1,11 +1,10 @@
 // What lent memory has to have, and what is refused for want of it.
 ghost use Rattle.std.specs.Prelude.{◌≡◌, ◌+◌, ◌*◌, ◌≤◌};
 ghost use Rattle.layout.specs.Sizes.{sizes_of};
-ghost use Rattle.layout.specs.Refusals.{numbered};
-ghost use Rattle.layout.specs.Budget.{Budgeted, start_refusal, event_refusal};
-ghost use Rattle.layout.specs.Budget.{short as short_of, first as first_of};
+ghost use Rattle.layout.specs.Refusals.{numbered, refused, slice_number};
+ghost use Rattle.layout.specs.Budget.{Budgeted, short, start_refusal, event_refusal};
 
-use crate::sizes::{Refusal, Sizes};
+use crate::sizes::{Refusal, Sizes, Slice};
 
 // What the lent slices have to have: elements of pictures and of work, and for each event of a call elements of sent and of words.
 #[derive(Clone, Copy)]
@@ -16,7 +15,7 @@ pub struct Budget {
     pub words: usize,
 }
 
-// How many elements the lent slices of a call have.
+// How many elements the lent slices of a call have. (The same fields as a budget, and a type of its own: what is lent can't be given for what is needed.)
 #[derive(Clone, Copy)]
 pub struct Lent {
     pub pictures: usize,
@@ -25,7 +24,7 @@ pub struct Lent {
     pub words: usize,
 }
 
-// How much of sent and of words is set apart for the events of the call so far.
+// How much of sent and of words is set apart for the events of the call so far. (Not what is written of them, which is less: that is a type of server.)
 #[derive(Clone, Copy)]
 pub struct Used {
     pub sent: usize,
@@ -44,43 +43,31 @@ fn boxes_for(windows: u32) -> usize
 
 // A product of two numbers that are small.
 fn times_small(a: usize, b: usize) -> usize
-    requires { (a ≤ 4096) × (b ≤ 1048576) }
+    requires first { a ≤ 4096 }
+    requires second { b ≤ 1048576 }
     ensures value { result ≡ a * b }
     ensures small { result ≤ 4294967296 }
 {
     a * b
 }
 
-// The lent slice is too short: it has fewer elements than it needs.
-fn short(slice: u8, needs: usize, has: usize) -> Option<Refusal>
-    ensures { numbered result ≡ short_of slice needs has }
+// A lent slice has the elements that it needs, or is too short.
+fn room(slice: Slice, needs: usize, has: usize) -> Result<(), Refusal>
+    ensures { refused result ≡ short (slice_number slice) needs has }
 {
     if needs <= has {
-        None
+        Ok(())
     } else {
-        Some(Refusal::Short { slice })
+        Err(Refusal::Short(slice))
     }
 }
 
-// The first of two refusals, where there is one.
-fn first(a: Option<Refusal>, b: Option<Refusal>) -> Option<Refusal>
-    ensures { numbered result ≡ first_of (numbered a) (numbered b) }
+// It has so many more than are set apart.
+fn room_behind(slice: Slice, used: usize, more: usize, has: usize) -> Result<(), Refusal>
+    ensures { refused result ≡ short (slice_number slice) (used + more) has }
 {
-    match a {
-        Some(_) => a,
-        None => b,
-    }
-}
-
-// The lent slice is too short for what is set apart and so much more.
-fn short_by(slice: u8, used: usize, more: usize, has: usize) -> Option<Refusal>
-    ensures { numbered result ≡ short_of slice (used + more) has }
-{
-    if used <= has {
-        short(slice, more, has - used)
-    } else {
-        Some(Refusal::Short { slice })
-    }
+    let left = has.checked_sub(used).ok_or(Refusal::Short(slice))?;
+    room(slice, more, left)
 }
 
 impl Sizes {
@@ -88,9 +75,7 @@ impl Sizes {
     pub fn budget(&self) -> Result<Budget, Refusal>
         ensures { Budgeted (sizes_of self.now) result }
     {
-        if let Some(no) = self.refusal() {
-            return Err(no);
-        }
+        self.in_range()?;
         let boxes = boxes_for(self.windows);
         Ok(Budget {
             pictures: self.dots as usize,
@@ -100,35 +85,39 @@ impl Sizes {
         })
     }
 
+    // Sizes and lent memory for a start.
+    #[tactic(auto, unfolding(crate::specs::Budget::start_refusal))]
+    fn start_room(&self, pictures: usize, work: usize) -> Result<(), Refusal>
+        ensures { refused result ≡ start_refusal (sizes_of self.now) pictures work }
+    {
+        let budget = self.budget()?;
+        room(Slice::Pictures, budget.pictures, pictures)?;
+        room(Slice::Work, budget.work, work)
+    }
+
     // Why there is no start with these sizes and so many elements of pictures and of work.
     pub fn start_refusal(&self, pictures: usize, work: usize) -> Option<Refusal>
         ensures { numbered result ≡ start_refusal (sizes_of self.now) pictures work }
     {
-        match self.budget() {
-            Err(no) => Some(no),
-            Ok(budget) => first(
-                short(0, budget.pictures, pictures),
-                short(1, budget.work, work),
-            ),
-        }
+        self.start_room(pictures, work).err()
+    }
+
+    // Sizes and lent memory for one event more.
+    #[tactic(auto, unfolding(crate::specs::Budget::start_refusal, crate::specs::Budget::event_refusal))]
+    fn event_room(&self, lent: Lent, used: Used) -> Result<(), Refusal>
+        ensures { refused result ≡ event_refusal (sizes_of self.now) lent used }
+    {
+        let budget = self.budget()?;
+        room(Slice::Pictures, budget.pictures, lent.pictures)?;
+        room(Slice::Work, budget.work, lent.work)?;
+        room_behind(Slice::Sent, used.sent, budget.sent, lent.sent)?;
+        room_behind(Slice::Words, used.words, budget.words, lent.words)
     }
 
     // Why the next event of a call is refused before it is read.
     pub fn event_refusal(&self, lent: Lent, used: Used) -> Option<Refusal>
         ensures { numbered result ≡ event_refusal (sizes_of self.now) lent used }
     {
-        match self.budget() {
-            Err(no) => Some(no),
-            Ok(budget) => first(
-                first(
-                    short(0, budget.pictures, lent.pictures),
-                    short(1, budget.work, lent.work),
-                ),
-                first(
-                    short_by(2, used.sent, budget.sent, lent.sent),
-                    short_by(3, used.words, budget.words, lent.words),
-                ),
-            ),
-        }
+        self.event_room(lent, used).err()
     }
 }

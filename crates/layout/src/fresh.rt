@@ -7,6 +7,7 @@ ghost use Rattle.stack.specs.Packed.{Packed};
 ghost use Rattle.layout.specs.State.{desk_of, Good};
 
 use crate::state::{Clipboard, State};
+use few::Few;
 use stack::state::Stack;
 
 impl State {
@@ -19,8 +20,7 @@ impl State {
     {
         let clip = Clipboard {
             owner: None,
-            len: 0,
-            bytes: [0; 4096],
+            bytes: Few::new(0),
         };
         State {
             stack: Stack::new(windows),

@@ -5,7 +5,7 @@ ghost use Rattle.layout.specs.Head.{sizes_in};
 ghost use Rattle.layout.specs.Loads.{Headed, Sized, Stacked, Loaded, load_refusal};
 ghost use Rattle.layout.specs.Refusals.{numbered_one};
 
-use crate::sizes::{Refusal, Sizes};
+use crate::sizes::{Refusal, Sizes, Slice};
 use crate::state::State;
 use crate::{clip, entry, head, order, table};
 use stack::state::Stack;
@@ -31,13 +31,8 @@ fn head_sizes(work: &[u32]) -> Option<Sizes>
 fn load_sizes(work: &[u32], pictures: usize) -> Option<Sizes>
     ensures { Sized work.now pictures result }
 {
-    let Some(z) = head_sizes(work) else {
-        return None;
-    };
-    match z.start_refusal(pictures, work.len()) {
-        None => Some(z),
-        Some(_) => None,
-    }
+    let z = head_sizes(work)?;
+    z.start_refusal(pictures, work.len()).is_none().then_some(z)
 }
 
 // The windows and their order, where they are sound.
@@ -51,11 +46,11 @@ fn load_stack(work: &[u32], z: Sizes) -> Option<Stack>
     if count > 255 {
         return None;
     }
-    if !table::entries_good(work, head::TABLE, z) {
+    if !table::entries_good(work, z) {
         return None;
     }
-    let mut s = table::load_table(work, head::TABLE, z.windows as u8);
-    order::load_order(work, head::ORDER, count, &mut s);
+    let mut s = table::load_table(work, z.windows as u8);
+    order::load_order(work, count, &mut s);
     if !order::order_good(&s) {
         return None;
     }
@@ -70,30 +65,22 @@ pub fn load_refusal(work: &[u32], pictures: usize) -> Refusal
     ensures { numbered_one result ≡ load_refusal work.now pictures }
 {
     let Some(z) = head_sizes(work) else {
-        return Refusal::Short { slice: 1 };
+        return Refusal::Short(Slice::Work);
     };
     if z.refusal().is_some() || z.dots as usize <= pictures {
-        return Refusal::Short { slice: 1 };
+        return Refusal::Short(Slice::Work);
     }
-    Refusal::Short { slice: 0 }
+    Refusal::Short(Slice::Pictures)
 }
 
 // The sizes and the state that the work holds, for pictures of so many dots; nothing where no start and events can have made it.
 pub fn load(work: &[u32], pictures: usize) -> Option<(Sizes, State)>
     ensures { Loaded work.now pictures result }
 {
-    let Some(z) = load_sizes(work, pictures) else {
-        return None;
-    };
-    let Some(stack) = load_stack(work, z) else {
-        return None;
-    };
-    let Some(clip) = clip::load_clip(work, head::CLIP_BYTES, work[head::CLIP]) else {
-        return None;
-    };
-    let Some((keys, held)) = order::load_hands(work[head::HANDS], &stack) else {
-        return None;
-    };
+    let z = load_sizes(work, pictures)?;
+    let stack = load_stack(work, z)?;
+    let clip = clip::load_clip(work, work[head::CLIP])?;
+    let (keys, held) = order::load_hands(work[head::HANDS], &stack)?;
     let (x, y) = entry::load_place(work[head::POINTER]);
     Some((
         z,

@@ -1,15 +1,12 @@
 // The state of a desk but for the pictures; what it means is in specs/State.antt.
-ghost use Rattle.std.specs.Prelude.{◌≤◌};
-
+use few::Few;
 use stack::state::Stack;
 
-// The clipboard: the program that offered last, and the first `len` of the bytes. Before the first offer there is no owner.
+// The clipboard: the program that offered last, and the bytes. Before the first offer there is no owner.
 #[derive(Clone, Copy)]
 pub struct Clipboard {
     pub owner: Option<u8>,
-    pub len: usize,
-    pub bytes: [u8; 4096],
-    ghost few: { len ≤ 4096 },
+    pub bytes: Few<u8, 4096>,
 }
 
 // The windows and their order, the pointer, the window that has the keys, the one that holds the pointer while a button is down,

@@ -3,7 +3,7 @@ ghost use Rattle.std.specs.Prelude.{◌≡◌, ℕ, ◌+◌, ◌*◌, ◌<◌, �
 ghost use Rattle.std.specs.List.{range_with_len};
 ghost use Rattle.stack.specs.View.{slots_of, order_of, packed};
 ghost use Rattle.layout.specs.Sizes.{sizes_of};
-ghost use Rattle.layout.specs.Head.{entry_at, flagged, shaped, each, word};
+ghost use Rattle.layout.specs.Head.{entry_at, flagged, shaped, each, word, table_at, head_end};
 ghost use Rattle.layout.specs.Stored.{bare};
 
 use crate::entry;
@@ -11,45 +11,37 @@ use crate::sizes::Sizes;
 use stack::state::Stack;
 
 // Whether the entries of all windows are as they have to be.
-pub(crate) fn entries_good(work: &[u32], at: usize, z: Sizes) -> bool
+pub(crate) fn entries_good(work: &[u32], z: Sizes) -> bool
     requires few { z.windows ≤ 255 }
-    requires low { at ≤ 2048 }
-    requires long { at + 3 * z.windows ≤ length work.now }
-    ensures { result ≡ each (λ n. flagged (word work.now (at + 3 * n)) && shaped (sizes_of z) (entry_at work.now at n)) z.windows }
+    requires long { head_end ≤ length work.now }
+    ensures { result ≡ each (λ n. flagged (word work.now (table_at + 3 * n)) && shaped (sizes_of z) (entry_at work.now table_at n)) z.windows }
 {
-    for n in 0..z.windows as usize {
-        if !entry::entry_good(work, at, n, z) {
-            return false;
-        }
-    }
-    true
+    (0..z.windows as usize).all(|n| entry::entry_good(work, n, z))
 }
 
 // The windows of the table, with their pictures one after another, and an empty order.
-pub(crate) fn load_table(work: &[u32], at: usize, count: u8) -> Stack
-    requires low { at ≤ 2048 }
-    requires long { at + 3 * count ≤ length work.now }
-    ensures slots { slots_of result ≡ packed 0 (map (entry_at work.now at) (range_with_len 0 count)) }
+pub(crate) fn load_table(work: &[u32], count: u8) -> Stack
+    requires { head_end ≤ length work.now }
+    ensures slots { slots_of result ≡ packed 0 (map (entry_at work.now table_at) (range_with_len 0 count)) }
     ensures order { order_of result ≡ [] }
     ensures limit { result.limit ≡ count }
 {
     let mut s = Stack::new(count);
     for n in 0..count {
-        s.set_window(n, entry::load_entry(work, at, n as usize));
+        s.set_window(n, entry::load_entry(work, usize::from(n)));
     }
     s.pack();
     s
 }
 
 // Writes the windows into the table; all other words stay as they are.
-pub(crate) fn store_table(s: &Stack, work: &mut [u32], at: usize)
-    requires low { at ≤ 2048 }
-    requires long { at + 3 * s.now.limit ≤ length work.old }
-    ensures table { (n : ℕ) → n < s.now.limit → entry_at work.new at n ≡ bare (slice_index_or (slots_of s.now) n None) }
-    ensures flags { (n : ℕ) → n < s.now.limit → flagged (word work.new (at + 3 * n)) ≡ true }
-    ensures rest { (k : ℕ) → (k < at) ⊎ (at + 3 * s.now.limit ≤ k) → slice_index work.new k ≡ slice_index work.old k }
+pub(crate) fn store_table(s: &Stack, work: &mut [u32])
+    requires { head_end ≤ length work.old }
+    ensures table { (n : ℕ) → n < s.now.limit → entry_at work.new table_at n ≡ bare (slice_index_or (slots_of s.now) n None) }
+    ensures flags { (n : ℕ) → n < s.now.limit → flagged (word work.new (table_at + 3 * n)) ≡ true }
+    ensures rest { (k : ℕ) → (k < table_at) ⊎ (table_at + 3 * s.now.limit ≤ k) → slice_index work.new k ≡ slice_index work.old k }
 {
     for n in 0..s.limit {
-        entry::store_entry(work, at, n, s.slot(n));
+        entry::store_entry(work, n, s.slot(n));
     }
 }

@@ -114,7 +114,7 @@ struct Left {
     used: usize,
 }
 
-fn write(told: Told, clip: &[u8; 4096], words: &mut [u8; 256], used: usize) -> Option<usize> {
+fn write(told: Told, clip: &[u8], words: &mut [u8; 256], used: usize) -> Option<usize> {
     protocol::write_word(told.program, told.word, clip, words, used)
 }
 
@@ -131,10 +131,10 @@ fn carried(call: &[u8]) -> Result<Left, Fail> {
         let Ok((e, end)) = protocol::read(call, at, 2, Kinds { built: [true; 13] }) else {
             return Err(Fail::new("a byte in fault"));
         };
-        let bytes = state.clip.bytes;
+        let clip = state.clip.bytes;
         let told = carry_out(SIZES, &mut state, &mut pictures, call, e);
         if let Some(told) = told {
-            let Some(n) = write(told, &bytes, &mut words, used) else {
+            let Some(n) = write(told, clip.as_slice(), &mut words, used) else {
                 return Err(Fail::new("no room for a word"));
             };
             used = used.saturating_add(n);

@@ -3,7 +3,7 @@
 #![tactic(auto)]
 
 use anyhow::anyhow;
-use layout::sizes::Sizes;
+use layout::sizes::{Refusal, Sizes};
 use std::io::Read;
 use std::process::ExitCode;
 
@@ -37,13 +37,14 @@ fn run(rt: &HostRuntime) -> anyhow::Result<()> {
         return Err(anyhow!("usage: screen ACROSS DOWN WINDOWS PROGRAMS SIDE DOTS < EVENTS"));
     };
     if let Some(no) = z.refusal() {
-        println!(rt; "refused {} at {}", no.number(), no.place())?;
+        println!(rt; "{no}")?;
         return Ok(());
     }
     let mut call = Vec::new(rt.alloc());
     rt.stdin().read_to_end(&mut call)?;
     if !call.is_empty() {
-        println!(rt; "refused 3 at 0")?;
+        let no = Refusal::Fault { place: 0 };
+        println!(rt; "{no}")?;
     }
     Ok(())
 }

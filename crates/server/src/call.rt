@@ -14,7 +14,7 @@ use crate::outcome::Outcome;
 use crate::step::{Written, step};
 use layout::budget::{Budget, Lent, Used};
 use layout::load::{load, load_refusal};
-use layout::sizes::{Refusal, Sizes};
+use layout::sizes::{Refusal, Sizes, Slice};
 use layout::state::State;
 use layout::store::store;
 use protocol::{Event, Kinds};
@@ -127,7 +127,7 @@ pub fn event(
     };
     let mut s = loaded;
     let Ok(budget) = z.budget() else {
-        return refused(Refusal::Short { slice: 1 });
+        return refused(Refusal::Short(Slice::Work));
     };
     let lent = Lent {
         pictures: pictures.len(),

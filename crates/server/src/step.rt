@@ -104,7 +104,7 @@ pub fn step(
 {
     let before = *s;
     let told = carry_out(z, s, pictures, call, e);
-    let words_end = tell(told, &before.clip.bytes, words, from.words);
+    let words_end = tell(told, before.clip.bytes.as_slice(), words, from.words);
     let taken = granted(told);
     let sent_end = send(z, e, taken, &before, s, pictures, sent, from.sent);
     Written {

@@ -1,20 +1,10 @@
-use Rattle.std.proofs.Common.{◌≡◌, ◌≤◌, length, None, sym, ap, ◌∙◌, subst}
-use Rattle.model.specs.Promise.{FitsSizes}
-use Rattle.layout.specs.Budget.{start_refusal}
-use Rattle.layout.specs.Head.{sizes_in}
-use Rattle.layout.proofs.Checked.{too_short, room-not, starts}
+use Rattle.layout.proofs.Checked.{too_short, sized}
 use Rattle.layout.proofs.load.load_sizes.Goals as goal
 
-pub returns-in_default : goal.returns-in_default
-returns-in_default c = too_short c.args.work.now c.args.pictures c.in_default.ensures
+pub returns-in_err-z : goal.returns-in_err-z
+returns-in_err-z c = rw c.from_residual.ensures (too_short c.args.work.now c.args.pictures c.in_err-z.ensures)
 
-pub returns-in-None : goal.returns-in-None
-unfolding sizes_in FitsSizes
-returns-in-None c =
-    let h = c.in-Some.ensures in
-    let e : start_refusal (sizes_in c.args.work.now) c.args.pictures (length c.args.work.now) ≡ None = rw (← h.1) (sym c.in-None.ensures) in
-    let s = starts (sizes_in c.args.work.now) c.args.pictures (length c.args.work.now) e in
-    record { sizes = h.1; room = e; long = h.0; few = subst (λ z. z.windows ≤ 255) (sym h.1) s.fits.4 }
-
-pub returns-in-Some-start_refusal : goal.returns-in-Some-start_refusal
-returns-in-Some-start_refusal c = let h = c.in-Some.ensures in room-not c.args.work.now c.args.pictures _ (ap (λ z. start_refusal z c.args.pictures (length c.args.work.now)) (sym h.1) ∙ sym c.in-Some-start_refusal.ensures)
+pub returns : goal.returns
+returns c =
+    rw c.then_some.ensures
+    (sized c.args.work.now c.args.pictures c.in_ok-z.z c.start_refusal.result c.is_none.result c.in_ok-z.ensures c.start_refusal.ensures c.is_none.ensures)

@@ -3,5 +3,5 @@ use Rattle.stack.specs.View.{order_of}
 use Rattle.layout.specs.Loads.{Tally}
 use Rattle.layout.proofs.order.tally.Given as goal
 
-abbrev pub invariant-loop-i : goal.invariant-loop-i
-invariant-loop-i l = Tally l.s.limit (take l.i (order_of l.s)) l.seen
+abbrev pub invariant-loop-n : goal.invariant-loop-n
+invariant-loop-n l = Tally l.s.limit (take l.n-index (order_of l.s)) l.seen

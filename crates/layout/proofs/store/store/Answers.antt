@@ -9,5 +9,5 @@ returns c =
     let b = c.store_bytes.ensures in
     let o = c.store_bytes-2.ensures in
     let f = c.store_front.ensures in
-    stored c.args.z c.args.s.now c.args.work.now c.store_table.new.work c.store_bytes.new.work c.store_bytes-2.new.work c.store_front.new.work
-    c.front_words-front.result c.front_words-front.ensures long t.table t.flags t.rest b.bytes b.rest o.bytes o.rest f.here f.rest
+    stored c.args.z c.args.s.now c.as_slice.result.now c.as_slice-2.result.now c.args.work.now c.store_table.new.work c.store_bytes.new.work c.store_bytes-2.new.work c.store_front.new.work
+    c.front_words-front.result c.front_words-front.ensures long t.table t.flags t.rest c.as_slice.ensures b.bytes b.rest c.as_slice-2.ensures o.bytes o.rest f.here f.rest

@@ -1,5 +1,5 @@
 use Rattle.std.proofs.Common.{◌+◌, ◌*◌, ap, ◌∙◌, inl, inr, arith, below_more}
-use Rattle.layout.specs.Head.{flagged}
+use Rattle.layout.specs.Head.{flagged, table_at}
 use Rattle.layout.specs.Stored.{bare}
 use Rattle.layout.proofs.Words.{entry-same}
 use Rattle.layout.proofs.table.store_table.Goals as goal
@@ -9,7 +9,7 @@ loop-n-preserved c =
     let i = c.loop-n.invariant in
     let n = c.loop-n.n in
     let e = c.store_entry.ensures in
-    let at = c.args.at in (
+    let at = table_at in (
       below_more _ n
           (λ k h. entry-same c.store_entry.new.work c.loop-n.work at k (e.rest (at + 3 * k) (inl (omega arith))) (e.rest (at + 3 * k + 1) (inl (omega arith))) (e.rest (at + 3 * k + 2) (inl (omega arith))) ∙ i.0 k h)
           (e.window ∙ ap bare c.slot.ensures),
