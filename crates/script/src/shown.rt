@@ -22,11 +22,10 @@ pub struct Shown<'a> {
 fn cut<'a>(source: &'a [u8], from: usize, size: usize) -> &'a [u8]
     ensures { result.now ≡ pick (nat_le (from + size) (length source.now)) (take size (drop from source.now)) [] }
 {
-    if from > source.len() || size > source.len() - from {
-        return &[];
-    }
-    let (_, behind) = source.split_at(from);
-    &behind[0..size]
+    source
+        .get(from..)
+        .and_then(|behind| behind.get(..size))
+        .unwrap_or(&[])
 }
 
 impl<'a> fmt::Display for Shown<'a> {
@@ -51,10 +50,7 @@ impl<'a> fmt::Display for Shown<'a> {
                 program,
                 window,
                 on,
-            } => {
-                let mark = on as u8;
-                write!(f, "show {program} {window} {mark}")
-            }
+            } => write!(f, "show {program} {window} {}", on as u8),
             Event::Fill {
                 program,
                 window,
@@ -97,10 +93,7 @@ impl<'a> fmt::Display for Shown<'a> {
                 show_bytes(cut(self.source, bytes.from, bytes.count as usize), f)
             }
             Event::Point { x, y } => write!(f, "point {x} {y}"),
-            Event::Press { down } => {
-                let mark = down as u8;
-                write!(f, "press {mark}")
-            }
+            Event::Press { down } => write!(f, "press {}", down as u8),
             Event::Key { key } => write!(f, "key {key}"),
             Event::Paste => write!(f, "paste"),
         }
@@ -108,11 +101,9 @@ impl<'a> fmt::Display for Shown<'a> {
 }
 
 fn show_colours<W: fmt::Write>(row: &[u8], f: &mut fmt::Formatter<W>) -> fmt::Result {
-    for four in row.chunks(4) {
-        if let [a, b, c, d] = four {
-            let colour = u32::from_le_bytes([*a, *b, *c, *d]);
-            write!(f, " {colour}")?;
-        }
+    let (colours, _) = row.as_chunks();
+    for colour in colours {
+        write!(f, " {}", u32::from_le_bytes(*colour))?;
     }
     Ok(())
 }
@@ -150,6 +141,7 @@ pub fn describe(heap: Global, bytes: &[u8]) -> Result<Description, AllocError>
 {
     let mut text = String::new(heap);
     let mut at = 0;
+    // `at` goes from the end of one event to that of the next, which only reading it tells
     while at < bytes.len() {
         match next_event(bytes, at, PROGRAMS, KINDS) {
             Ok((event, end)) => {
@@ -157,8 +149,7 @@ pub fn describe(heap: Global, bytes: &[u8]) -> Result<Description, AllocError>
                     event,
                     source: bytes,
                 };
-                let line = format!(in heap; "{shown}\n")?;
-                text.push_str(line.as_str())?;
+                writeln!(text, "{shown}")?;
                 at = end;
             }
             Err(fault) => return Ok(Description {
