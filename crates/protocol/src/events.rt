@@ -1,11 +1,11 @@
 // One reader a kind of event. Each is called where the kind's byte stands at `at`.
-ghost use Rattle.std.specs.Prelude.{◌≡◌, ℕ, ◌+◌, ◌*◌, ◌^◌, ◌<◌, ◌≤◌, ◌⊎◌, length, Ok, Err, slice_index};
-ghost use Rattle.protocol.specs.Fields.{marked};
+ghost use Rattle.std.specs.Prelude.{◌≡◌, ℕ, ◌+◌, ◌*◌, ◌^◌, ◌<◌, ◌≤◌, ◌⊎◌, length, drop, Ok, Err, slice_index};
+ghost use Rattle.protocol.specs.Fields.{marked, number};
 ghost use Rattle.protocol.specs.Formats.{decode_kind};
 ghost use Rattle.protocol.specs.Meaning.{said, Had};
 
 use crate::numbers::{read_four, read_near, read_two};
-use crate::types::{Event, Fault, Part};
+use crate::types::{Event, Fault, Part, Patch};
 
 // The bytes below `to` have to be there.
 pub fn need(call: &[u8], to: usize) -> Result<(), Fault>
@@ -44,6 +44,22 @@ pub fn read_mark(call: &[u8], at: usize) -> Result<bool, Fault>
         0 => Ok(false),
         1 => Ok(true),
         _ => Err(Fault { place: at }),
+    }
+}
+
+// A box of a window's own dots: four numbers of two bytes.
+fn read_patch(call: &[u8], at: usize) -> Patch
+    requires { at + 8 ≤ length call.now }
+    ensures x { result.x ≡ number 2 (drop at call.now) }
+    ensures y { result.y ≡ number 2 (drop (at + 2) call.now) }
+    ensures wide { result.wide ≡ number 2 (drop (at + 4) call.now) }
+    ensures high { result.high ≡ number 2 (drop (at + 6) call.now) }
+{
+    Patch {
+        x: read_two(call, at),
+        y: read_two(call, at + 2),
+        wide: read_two(call, at + 4),
+        high: read_two(call, at + 6),
     }
 }
 
@@ -141,19 +157,13 @@ pub fn read_fill(call: &[u8], at: usize, programs: u8) -> Result<(Event, usize),
 {
     let program = read_program(call, at + 1, programs)?;
     need(call, at + 15)?;
-    let x = read_two(call, at + 3);
-    let y = read_two(call, at + 5);
-    let wide = read_two(call, at + 7);
-    let high = read_two(call, at + 9);
+    let patch = read_patch(call, at + 3);
     let colour = read_four(call, at + 11);
     Ok((
         Event::Fill {
             program,
             window: call[at + 2],
-            x,
-            y,
-            wide,
-            high,
+            patch,
             colour,
         },
         at + 15,
@@ -193,20 +203,14 @@ pub fn read_copy(call: &[u8], at: usize, programs: u8) -> Result<(Event, usize),
 {
     let program = read_program(call, at + 1, programs)?;
     need(call, at + 15)?;
-    let x = read_two(call, at + 3);
-    let y = read_two(call, at + 5);
-    let wide = read_two(call, at + 7);
-    let high = read_two(call, at + 9);
+    let patch = read_patch(call, at + 3);
     let to_x = read_two(call, at + 11);
     let to_y = read_two(call, at + 13);
     Ok((
         Event::Copy {
             program,
             window: call[at + 2],
-            x,
-            y,
-            wide,
-            high,
+            patch,
             to_x,
             to_y,
         },

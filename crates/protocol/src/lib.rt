@@ -16,7 +16,7 @@ mod types;
 mod write;
 
 pub use laws::{events_stand, fits_stand, words_stand};
-pub use types::{Event, Fault, Kinds, Part, Word};
+pub use types::{Event, Fault, Kinds, Part, Patch, Word};
 
 // Calls are shorter than this: a longer one is refused at the last byte that a call may have.
 const CALL_END: usize = 4294967296;
@@ -114,12 +114,9 @@ pub fn write_event(e: Event, source: &[u8], out: &mut [u8], at: usize) -> Option
         Event::Fill {
             program,
             window,
-            x,
-            y,
-            wide,
-            high,
+            patch,
             colour,
-        } => write::write_fill(out, at, program, window, x, y, wide, high, colour),
+        } => write::write_fill(out, at, program, window, patch, colour),
         Event::Put {
             program,
             window,
@@ -130,13 +127,10 @@ pub fn write_event(e: Event, source: &[u8], out: &mut [u8], at: usize) -> Option
         Event::Copy {
             program,
             window,
-            x,
-            y,
-            wide,
-            high,
+            patch,
             to_x,
             to_y,
-        } => write::write_copy(out, at, program, window, x, y, wide, high, to_x, to_y),
+        } => write::write_copy(out, at, program, window, patch, to_x, to_y),
         Event::Offer { program, bytes } => write::write_offer(out, at, source, program, bytes),
         Event::Point { x, y } => write::write_point(out, at, x, y),
         Event::Press { down } => write::write_press(out, at, down),

@@ -1,4 +1,5 @@
 // What makers send and are told, as values.
+ghost use Rattle.std.specs.Prelude.{◌≡◌};
 
 // A row by where it lies: `count` elements from the byte `from` of the bytes that it was read from.
 // An element is four bytes in a row of colours, and one in a row of bytes.
@@ -6,6 +7,24 @@
 pub struct Part {
     pub from: usize,
     pub count: u16,
+}
+
+// A box of a window's own dots: its upper left dot, and how many dots it has across and down.
+#[derive(Clone, Copy, PartialEq, Eq)]
+pub struct Patch {
+    pub x: u16,
+    pub y: u16,
+    pub wide: u16,
+    pub high: u16,
+}
+
+impl Patch {
+    // The box of its size at another place.
+    pub fn moved_to(self, x: u16, y: u16) -> Patch
+        ensures { result ≡ record { x = x; y = y; wide = self.wide; high = self.high } }
+    {
+        Patch { x, y, ..self }
+    }
 }
 
 // An event. Those from `Make` to `Offer` come from a program, the others from the person at the desk.
@@ -40,10 +59,7 @@ pub enum Event {
     Fill {
         program: u8,
         window: u8,
-        x: u16,
-        y: u16,
-        wide: u16,
-        high: u16,
+        patch: Patch,
         colour: u32,
     },
     Put {
@@ -56,10 +72,7 @@ pub enum Event {
     Copy {
         program: u8,
         window: u8,
-        x: u16,
-        y: u16,
-        wide: u16,
-        high: u16,
+        patch: Patch,
         to_x: u16,
         to_y: u16,
     },

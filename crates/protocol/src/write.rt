@@ -5,7 +5,7 @@ ghost use Rattle.protocol.specs.Formats.{line};
 ghost use Rattle.protocol.specs.Meaning.{part, lies};
 
 use crate::push::{push, push_four, push_mark, push_near, push_row, push_two, room};
-use crate::types::Part;
+use crate::types::{Part, Patch};
 
 pub fn write_make(
     out: &mut [u8],
@@ -93,13 +93,10 @@ pub fn write_fill(
     at: usize,
     program: u8,
     window: u8,
-    x: u16,
-    y: u16,
-    wide: u16,
-    high: u16,
+    patch: Patch,
     colour: u32,
 ) -> Option<usize>
-    ensures { Wrote true at (line 5 program window x y wide high colour) out.old out.new result }
+    ensures { Wrote true at (line 5 program window patch.x patch.y patch.wide patch.high colour) out.old out.new result }
 {
     if !room(out.len(), at, 15) {
         return None;
@@ -107,10 +104,10 @@ pub fn write_fill(
     let at = push(out, at, 5);
     let at = push(out, at, program);
     let at = push(out, at, window);
-    let at = push_two(out, at, x);
-    let at = push_two(out, at, y);
-    let at = push_two(out, at, wide);
-    let at = push_two(out, at, high);
+    let at = push_two(out, at, patch.x);
+    let at = push_two(out, at, patch.y);
+    let at = push_two(out, at, patch.wide);
+    let at = push_two(out, at, patch.high);
     let _ = push_four(out, at, colour);
     Some(15)
 }
@@ -148,14 +145,11 @@ pub fn write_copy(
     at: usize,
     program: u8,
     window: u8,
-    x: u16,
-    y: u16,
-    wide: u16,
-    high: u16,
+    patch: Patch,
     to_x: u16,
     to_y: u16,
 ) -> Option<usize>
-    ensures { Wrote true at (line 7 program window x y wide high to_x to_y) out.old out.new result }
+    ensures { Wrote true at (line 7 program window patch.x patch.y patch.wide patch.high to_x to_y) out.old out.new result }
 {
     if !room(out.len(), at, 15) {
         return None;
@@ -163,10 +157,10 @@ pub fn write_copy(
     let at = push(out, at, 7);
     let at = push(out, at, program);
     let at = push(out, at, window);
-    let at = push_two(out, at, x);
-    let at = push_two(out, at, y);
-    let at = push_two(out, at, wide);
-    let at = push_two(out, at, high);
+    let at = push_two(out, at, patch.x);
+    let at = push_two(out, at, patch.y);
+    let at = push_two(out, at, patch.wide);
+    let at = push_two(out, at, patch.high);
     let at = push_two(out, at, to_x);
     let _ = push_two(out, at, to_y);
     Some(15)
