@@ -1,10 +1,8 @@
 // Bytes to text: an event a line.
-ghost use Rattle.std.specs.Prelude.{◌≡◌, ◌+◌, ◌<◌, List, [], length, take, drop, IfOk, nat_le};
+ghost use Rattle.std.specs.Prelude.{◌≡◌, ◌+◌, List, [], length, take, drop, IfOk, nat_le};
 ghost use Rattle.std.specs.Option.{option_map};
 ghost use Rattle.model.specs.Basics.{pick};
 ghost use Rattle.model.specs.Desk as desk;
-ghost use Rattle.protocol.specs.Formats.{read_event};
-ghost use Rattle.protocol.specs.Meaning.{said, built_of};
 ghost use Rattle.script.specs.Rows.{Reads};
 
 use protocol::{Event, Fault, Kinds, Patch, read};
@@ -54,12 +52,9 @@ impl<'a> fmt::Display for Shown<'a> {
             Event::Fill {
                 program,
                 window,
-                patch,
+                patch: Patch { x, y, wide, high },
                 colour,
-            } => {
-                let Patch { x, y, wide, high } = patch;
-                write!(f, "fill {program} {window} {x} {y} {wide} {high} {colour}")
-            }
+            } => write!(f, "fill {program} {window} {x} {y} {wide} {high} {colour}"),
             Event::Put {
                 program,
                 window,
@@ -76,16 +71,13 @@ impl<'a> fmt::Display for Shown<'a> {
             Event::Copy {
                 program,
                 window,
-                patch,
+                patch: Patch { x, y, wide, high },
                 to_x,
                 to_y,
-            } => {
-                let Patch { x, y, wide, high } = patch;
-                write!(
-                    f,
-                    "copy {program} {window} {x} {y} {wide} {high} {to_x} {to_y}"
-                )
-            }
+            } => write!(
+                f,
+                "copy {program} {window} {x} {y} {wide} {high} {to_x} {to_y}"
+            ),
             Event::Offer { program, bytes } => {
                 write!(f, "offer {program}")?;
                 show_bytes(cut(self.source, bytes.from, bytes.count as usize), f)
@@ -125,14 +117,6 @@ const KINDS: Kinds = Kinds { built: [true; 13] };
 
 const PROGRAMS: u8 = 255;
 
-// The event at a place, and where it ends, which is behind its place.
-fn next_event(bytes: &[u8], at: usize, programs: u8, kinds: Kinds) -> Result<(Event, usize), Fault>
-    ensures value { said bytes.now result ≡ read_event (built_of kinds) programs bytes.now at }
-    ensures onward { IfOk result (λ p. at < p.1) }
-{
-    read(bytes, at, programs, kinds)
-}
-
 // The events of a row of bytes, a line each, up to the first fault.
 pub fn describe(heap: Global, bytes: &[u8]) -> Result<Description, AllocError>
     ensures { IfOk result (λ d. (es : List desk.Event) × Reads bytes.now 0 es (option_map (λ f. f.place) d.fault)) }
@@ -141,7 +125,7 @@ pub fn describe(heap: Global, bytes: &[u8]) -> Result<Description, AllocError>
     let mut at = 0;
     // `at` goes from the end of one event to that of the next, which only reading it tells
     while at < bytes.len() {
-        match next_event(bytes, at, PROGRAMS, KINDS) {
+        match read(bytes, at, PROGRAMS, KINDS) {
             Ok((event, end)) => {
                 let shown = Shown {
                     event,
