@@ -3,24 +3,15 @@ use desktop::told::Told;
 use protocol::{Part, Word};
 use std::fmt;
 
+#[derive(Drop)]
 pub struct Line<'a> {
     pub told: Told,
     // the clipboard's bytes, which a word may point to
-    pub bytes: &'a [u8; 4096],
-}
-
-impl Drop for Line<'_> {
-    fn drop(self) {
-        let Line { told: _, bytes: _ } = self;
-    }
+    pub bytes: &'a [u8],
 }
 
 // The bytes of a part in decimal, each behind a space.
-fn show_bytes<W: fmt::Write>(
-    f: &mut fmt::Formatter<W>,
-    bytes: &[u8; 4096],
-    part: Part,
-) -> fmt::Result {
+fn show_bytes<W: fmt::Write>(f: &mut fmt::Formatter<W>, bytes: &[u8], part: Part) -> fmt::Result {
     for b in bytes.iter().skip(part.from).take(part.count as usize) {
         write!(f, " {b}")?;
     }
