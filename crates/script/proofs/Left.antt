@@ -1,8 +1,8 @@
 -- What is left of the words, one fewer.
-use Rattle.std.proofs.Common.{◌≡◌, ℕ, ◌+◌, ◌<◌, ◌≤◌, true, false, ltb, leb, List, [], ◌∷◌, length, get_or, drop, Some, None, Option, Ok, Err, Result, ◌⊎◌, ⊎_elim, sym, refl, add-one, arith, drop-cons, Bor}
+use Rattle.std.proofs.Common.{◌≡◌, ℕ, ◌+◌, ◌<◌, ◌≤◌, true, false, ltb, leb, List, [], ◌∷◌, length, get_or, drop, Some, None, Ok, Err, Result, ◌⊎◌, ⊎_elim, sym, refl, add-one, arith, drop-cons, Bor}
 use Rattle.std.specs.List.{IsSplitAt}
 use Rattle.std.specs.Result.{OkIff, is_ok}
-use Rattle.std.proofs.lemmas.List.{drop_all, length-map, nil_from_length, take-map, drop-map}
+use Rattle.std.proofs.lemmas.List.{drop_all, length-map, take-map, drop-map}
 use Rattle.std.proofs.lemmas.Bool.{false≢true, lt-ltb, le-ltb, le-leb, lt-leb}
 use Rattle.protocol.specs.Fields.{digits}
 use Rattle.script.specs.declared.fields.Field.{Field}
@@ -43,14 +43,6 @@ row-long f ws (Err d) h e =
     let l : length (texts ws) ≡ length ws = length-map ws (λ w. w.now) in
     let t : ltb (length ws) 65536 ≡ false = le-ltb _ _ (omega (arith, h)) in
     rw (l, t)
-
--- nothing may stand behind the fields of a kind without a row
-pub rest-empty : (r : Option Field) (ws : List (Bor (List ℕ))) → None ≡ r → length ws ≡ 0 → rest_bytes r (texts ws) ≡ Some []
-rest-empty r ws e z = rw (← e, nil_from_length ws z)
-
-pub rest-words : (r : Option Field) (ws : List (Bor (List ℕ))) → None ≡ r → 0 < length ws → rest_bytes r (texts ws) ≡ None
-rest-words r [] e h = absurd (omega arith)
-rest-words r (w ∷ ws) e h = rw (← e)
 
 -- too few words
 pub event-few : (k : Kind) (ws : List (Bor (List ℕ))) → length ws < length (fields_of k) → event_bytes k (texts ws) ≡ None

@@ -57,11 +57,6 @@ words-drained (w ∷ ws) s t y h =
     let cut = y.1 in
     (split_whitespace_rest y.0, record { gap = cut.0; cut = cut.1; some = cut.2; blank = cut.3; solid = cut.4; ends = cut.5 }, words-drained ws y.0 t y.2 h)
 
--- The words of a line.
-pub sentence-none : (ws : List (Bor (List ℕ))) → length ws ≡ 0 → option_map encode_all (sentence (texts ws)) ≡ Some []
-sentence-none [] e = refl
-sentence-none (w ∷ ws) e = absurd (omega arith)
-
 pub sentence-named : (all : List (Bor (List ℕ))) (name : Bor (List ℕ)) (ws : List (Bor (List ℕ))) (k : Kind) → all ≡ name ∷ ws → Some k ≡ kind_of name.now
     → option_map encode_all (sentence (texts all)) ≡ option_map encode (kind_says (number_of k) (texts ws))
 sentence-named all name ws k e n =
@@ -72,10 +67,6 @@ sentence-named all name ws k e n =
     by : (o : Option Event) → option_map encode_all (option_map (λ e. e ∷ []) o) ≡ option_map encode o
     by None = refl
     by (Some e) = ap (λ l. Some l) (append-nil (encode e))
-
-pub sentence-unknown : (all : List (Bor (List ℕ))) (name : Bor (List ℕ)) (ws : List (Bor (List ℕ))) → all ≡ name ∷ ws → None ≡ kind_of name.now
-    → option_map encode_all (sentence (texts all)) ≡ None
-sentence-unknown all name ws e n = rw (e, ← n)
 
 -- what is put for the words of a line is put for the line
 pub line-put : (line text old new : List ℕ) (ws : List (List ℕ)) (r : Result (Unit {0}) Problem) → text ≡ code_of line → Words text ws → Puts (option_map encode_all (sentence ws)) old new r → PutsLine line old new r
@@ -136,9 +127,6 @@ line-shorter w x rest some h = ⊎_elim (λ l. l) (λ ge. absurd (long ge)) (cas
     long ge = let z : h.0 ≡ 0 = omega (arith, h.3) in omega (arith, opens h.0 z h.2)
 
 module _ (text rest next line : List ℕ) (n : ℕ) (out : List ℕ) (g : Sofar text rest n out) (some : 0 < length rest) (l : IsFirstLine rest line next) where
-  pub sofar-fits : n + 1 ≤ length text
-  sofar-fits = omega (arith, g.few)
-
   pub sofar-more : (new : List ℕ) → (es : List Event) × LineSays line (Some es) × (new ≡ out ++ encode_all es) → Sofar text next (n + 1) new
   sofar-more new p = record {
     seen = g.seen ++ (p.0 ∷ []);

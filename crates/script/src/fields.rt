@@ -17,7 +17,7 @@ pub fn add<'a>(out: &mut Vec<u8>, bytes: &[u8]) -> Result<(), Problem<'a>>
     Ok(())
 }
 
-// A number without sign, in so many bytes.
+// A number without sign, in so many bytes. The two numbers of a field meet here alone, so they are no struct.
 fn put_plain<'a>(
     word: &'a str,
     high: u32,

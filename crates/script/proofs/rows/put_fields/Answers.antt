@@ -1,17 +1,9 @@
-use Rattle.std.proofs.Common.{◌≡◌, None, Some, refl, rules}
-use Rattle.std.specs.Iterator.Adapters.{zip_first, zip_second}
-use Rattle.std.specs.Slice.Iter.{iter_rest}
+use Rattle.std.proofs.Common.{None, Some, refl}
 use Rattle.std.proofs.lemmas.Result.{err_from_is_err_and}
 use Rattle.std.proofs.lemmas.Slice.Zip.{Zip-more, either_empty_from_Zip}
-use Rattle.script.proofs.Going.{going_start, going-by, going-put, going-stop, going_end}
+use Rattle.script.proofs.Going.{going-by, going-put, going-stop, going_end}
 use Rattle.script.proofs.Left.{each_more, each-end}
 use Rattle.script.proofs.rows.put_fields.Goals as goal
-
-pub loop-field-init : goal.loop-field-init
-loop-field-init c =
-    let a : iter_rest (zip_first c.into_iter-field-iterator.result) ≡ c.args.fields.now = search rules in
-    let b : iter_rest (zip_second c.into_iter-field-iterator.result) ≡ c.args.words.now = search rules in
-    rw (a, b) (going_start _ _)
 
 pub returns-in_err-put : goal.returns-in_err-put
 returns-in_err-put c =
