@@ -3,7 +3,8 @@
 
 mod told;
 
-use anyhow::anyhow;
+use anyhow::Context;
+use asked::sizes;
 use desktop::carry::carry_out;
 use desktop::look::dot_at;
 use layout::budget::Budget;
@@ -15,28 +16,6 @@ use std::process::ExitCode;
 use told::Line;
 
 const USAGE: &str = "usage: desk ACROSS DOWN WINDOWS PROGRAMS SIDE DOTS < EVENTS";
-
-// One size in decimal; one that is too large for 32 bits is out of every range all the same.
-fn size(text: &str) -> Option<u32> {
-    match text.parse::<u64>() {
-        Ok(n) => Some(u32::try_from(n).unwrap_or(u32::MAX)),
-        Err(_) => None,
-    }
-}
-
-fn sizes(words: &[String]) -> Option<Sizes> {
-    let [wide, high, windows, programs, side, dots] = words else {
-        return None;
-    };
-    Some(Sizes {
-        wide: size(wide.as_str())?,
-        high: size(high.as_str())?,
-        windows: size(windows.as_str())?,
-        programs: size(programs.as_str())?,
-        side: size(side.as_str())?,
-        dots: size(dots.as_str())?,
-    })
-}
 
 // The screen by rows, each dot in hexadecimal.
 fn show(rt: &HostRuntime, z: Sizes, s: &State, pictures: &[u32]) -> anyhow::Result<()> {
@@ -58,19 +37,14 @@ fn run(rt: &HostRuntime, z: Sizes, budget: Budget, call: &[u8]) -> anyhow::Resul
     let kinds = Kinds { built: [true; 13] };
     let programs = z.programs.min(64) as u8;
     let mut at = 0;
-    for _ in 0..call.len() {
-        if at >= call.len() {
-            return Ok(());
-        }
+    while at < call.len() {
         match protocol::read(call, at, programs, kinds) {
             Ok((e, end)) => {
                 let clip = s.clip.bytes;
                 let told = carry_out(z, &mut s, pictures.as_mut_slice(), call, e);
                 if let Some(told) = told {
-                    rt.println(Line {
-                        told,
-                        bytes: clip.as_slice(),
-                    })?;
+                    let bytes = clip.as_slice();
+                    rt.println(Line { told, bytes })?;
                 }
                 show(rt, z, &s, pictures.as_slice())?;
                 at = end;
@@ -91,9 +65,7 @@ fn start(rt: &HostRuntime) -> anyhow::Result<()> {
     let words = std::env::args(rt)?
         .skip(1)
         .collect::<Vec<String>>(rt.alloc())?;
-    let Some(z) = sizes(words.as_slice()) else {
-        return Err(anyhow!(USAGE));
-    };
+    let z = sizes(words.as_slice()).context(USAGE)?;
     let budget = match z.budget() {
         Ok(budget) => budget,
         Err(no) => {

@@ -3,16 +3,11 @@ use desktop::told::Told;
 use protocol::{Part, Word};
 use std::fmt;
 
+#[derive(Drop)]
 pub struct Line<'a> {
     pub told: Told,
     // the clipboard's bytes, which a word may point to
     pub bytes: &'a [u8],
-}
-
-impl Drop for Line<'_> {
-    fn drop(self) {
-        let Line { told: _, bytes: _ } = self;
-    }
 }
 
 // The bytes of a part in decimal, each behind a space.

@@ -1,10 +1,13 @@
 -- What the library's reader of digits answers, and `in_base`.
-use Rattle.std.proofs.Common.{◌≡◌, ℕ, ◌^◌, ◌<◌, ◌≤◌, Bool, true, false, ◌&&◌, eqb, ltb, leb, List, [], ◌∷◌, ◌++◌, length, get_or, take, drop, pos, neg_ℤ, Some, None, codes, sym, refl, ap, ◌∙◌, subst, arith, take-append-drop}
-use Rattle.std.specs.Option.{option_map}
-use Rattle.std.specs.Str.Parse.{digits_value, AllDigits, IsNumeral}
+use Rattle.std.proofs.Common.{◌≡◌, ℕ, ◌^◌, ◌<◌, ◌≤◌, Bool, true, false, ◌&&◌, eqb, ltb, leb, List, [], ◌∷◌, ◌++◌, length, get_or, take, drop, pos, neg_ℤ, Some, None, Option, Ok, Err, Result, codes, sym, refl, ap, ◌∙◌, subst, arith, take-append-drop}
+use Rattle.std.specs.Bool.{then_some}
+use Rattle.std.specs.Option.{option_map, MatchOption}
+use Rattle.std.specs.Result.{result_ok}
+use Rattle.std.specs.Str.Parse.{digits_value, without_leading_plus, AllDigits, IsNumeral, ParsesUnsigned}
 use Rattle.std.specs.Char.{digit_value}
 use Rattle.std.proofs.lemmas.Slice.Eq.{bytes_eq-Decides}
-use Rattle.std.proofs.lemmas.Bool.{ltb-true, leb-true, and_parts, ne_eqb}
+use Rattle.std.proofs.lemmas.Bool.{ltb-true, leb-true, leb-false, and_parts, ne_eqb}
+use Rattle.std.proofs.lemmas.Option.{MatchOption-at_some, MatchOption-at_none}
 use Rattle.std.proofs.lemmas.Bool.Decides.{nat_tests}
 use Rattle.model.specs.Basics.{pick}
 use Rattle.script.specs.Numerals.{all_digits, in_base, begins_hex, plain_number, signed_number}
@@ -43,6 +46,24 @@ in_base-plus base most [] e l = in_base-not base most [] (λ s d h. omega arith)
 in_base-plus base most (c ∷ cs) e l = in_base-not base most (c ∷ cs) (λ s d h.
     let q : digit_value c < base = ltb-true _ _ (and_parts _ _ d).0 in
     let z : digit_value 43 < base = subst (λ x. digit_value x < base) e q in omega arith)
+
+-- what is kept of the library's reading of digits with no sign
+pub in_base-kept : {E : Type 0} (base most : ℕ) (ds : List ℕ) (r : Result ℕ E) (o got : Option ℕ) → most < 2 ^ 32 → without_leading_plus ds ≡ ds
+    → ParsesUnsigned 32 base ds r → o ≡ result_ok r → MatchOption o (got ≡ None) (λ x. got ≡ then_some (leb x most) x) → got ≡ in_base base most ds
+in_base-kept base most ds (Ok n) o got l e p q h = MatchOption-at_some _ (λ x. got ≡ then_some (leb x most) x) n q h ∙ by (leb n most) refl
+  where
+    num : IsNumeral base ds
+    num = subst (λ t. IsNumeral base t) e p.0.0
+
+    val : n ≡ digits_value base ds
+    val = subst (λ t. n ≡ digits_value base t) e p.1
+
+    by : (b : Bool) → leb n most ≡ b → then_some b n ≡ in_base base most ds
+    by true t = in_base-ok base most ds n num val (leb-true _ _ t)
+    by false t = in_base-high base most ds n val (leb-false _ _ t)
+in_base-kept base most ds (Err x) o got l e p q h =
+    MatchOption-at_none _ (λ x. got ≡ then_some (leb x most) x) q h
+    ∙ in_base-none base most ds l (subst (λ t. IsNumeral base t × (digits_value base t < 2 ^ 32) → ⊥) e p)
 
 hex-yes : (w rest : List ℕ) → w ≡ codes "0x" ++ rest → begins_hex w ≡ true
 hex-yes w rest e = subst (λ x. begins_hex x ≡ true) (sym e) refl

@@ -13,6 +13,13 @@ blames (Number w low high) f h = f h
 blames (Long k) f h = f h
 blames Memory f h = tt
 
+pub blame : (p : Problem) {P : Type 0} → P → Blames p P
+blame (Unknown w) h = h
+blame (Fields k) h = h
+blame (Number w low high) h = h
+blame (Long k) h = h
+blame Memory h = tt
+
 pub puts-from-add : (said : Option (List ℕ)) (old new bs : List ℕ) (r : Result (Unit {0}) Problem) → said ≡ Some bs → MatchResult r (λ _. new ≡ old ++ bs) (λ p. Blames p ⊥) → Puts said old new r
 puts-from-add said old new bs (Ok u) e h = (bs, e, h)
 puts-from-add said old new bs (Err p) e h = blames p (λ x. absurd x) h

@@ -1,21 +1,25 @@
 -- Lines and words, one after another.
 use Rattle.std.proofs.Common.{◌≡◌, ℕ, suc, ◌+◌, ◌<◌, ◌≤◌, false, eqb, List, [], ◌∷◌, ◌++◌, length, get_or, drop, Some, None, Ok, Err, Option, Result, sym, refl, ap, ◌∙◌, subst, ⊎_elim, append_assoc, append-nil, arith, length-append, Bor}
 use lib.Utf8 as utf8
+use Rattle.std.specs.Iterator.{Yields}
+use Rattle.std.specs.Str.Iter.{split_whitespace_rest, split_whitespace_steps}
 use Rattle.std.specs.Str.Lines.{IsFirstLine}
-use Rattle.std.specs.Option.{option_map}
-use Rattle.std.specs.Char.{is_whitespace, is_not_whitespace, is_newline}
+use Rattle.std.specs.Option.{MatchOption, option_map}
+use Rattle.std.specs.Result.{MatchResult}
+use Rattle.std.specs.Char.{is_not_whitespace, is_newline}
 use Rattle.std.specs.Str.{NoCharPasses, EmptyOrStartsWithPassing}
-use Rattle.std.proofs.lemmas.List.{map-append, length_push}
+use Rattle.std.proofs.lemmas.List.{length_push}
 use Rattle.std.proofs.lemmas.Bool.{ne_eqb, eqb-true, cases_lt}
 use Rattle.model.specs.Desk.{Event}
 use Rattle.protocol.specs.Formats.{encode}
 use Rattle.script.specs.declared.kinds.Kind.{Kind}
 use Rattle.script.specs.declared.problem.Problem.{Problem}
 use Rattle.script.specs.Kinds.{kind_of}
-use Rattle.script.specs.Putting.{Puts}
+use Rattle.script.specs.declared.text.Refusal.{Refusal}
+use Rattle.script.specs.Putting.{Puts, Blames}
 use Rattle.script.specs.Sentences.{and_then, texts, kind_says}
 use Rattle.script.specs.Tables.{number_of}
-use Rattle.script.specs.Texts.{code_of, FirstWord, Words, sentence, LineSays, encode_all, PutsLine, TextSays, WrongAfter, WrongAt, all_events}
+use Rattle.script.specs.Texts.{code_of, Words, sentence, LineSays, encode_all, PutsLine, TextSays, WrongAfter, WrongAt, all_events}
 use Rattle.script.proofs.Going.{blames}
 
 -- Comments.
@@ -28,7 +32,7 @@ lacks_rest x xs h i l e = h (suc i) (omega arith) e
 lacks-first : (x : ℕ) (xs : List ℕ) → Lacks (x ∷ xs) → eqb x 35 ≡ false
 lacks-first x xs h = ne_eqb x 35 (λ e. h 0 (omega arith) e)
 
-pub code-whole : (xs : List ℕ) → Lacks xs → xs ≡ code_of xs
+code-whole : (xs : List ℕ) → Lacks xs → xs ≡ code_of xs
 code-whole [] h = refl
 code-whole (x ∷ xs) h = let e = lacks-first x xs h in rw e (ap (λ l. x ∷ l) (code-whole xs (lacks_rest x xs h)))
 
@@ -36,30 +40,22 @@ code-front : (xs ys : List ℕ) → Lacks xs → xs ≡ code_of (xs ++ (35 ∷ y
 code-front [] ys h = refl
 code-front (x ∷ xs) ys h = let e = lacks-first x xs h in rw e (ap (λ l. x ∷ l) (code-front xs ys (lacks_rest x xs h)))
 
-pub code-cut : (bs xs ys : List ℕ) → bs ≡ xs ++ (35 ∷ ys) → Lacks xs → xs ≡ code_of bs
+code-cut : (bs xs ys : List ℕ) → bs ≡ xs ++ (35 ∷ ys) → Lacks xs → xs ≡ code_of bs
 code-cut bs xs ys e h = code-front xs ys h ∙ ap code_of (sym e)
 
--- Words: those that were seen come before the others.
-abbrev pub BeforeWords : List ℕ → List ℕ → List (List ℕ) → Type 0
-BeforeWords text rest seen = (ws : List (List ℕ)) → Words rest ws → Words text (seen ++ ws)
+-- what stands before the first #, or the whole line
+pub code-found : (bs : List ℕ) (o : Option (Bor (List ℕ) × Bor (List ℕ))) (r : List ℕ)
+    → MatchOption o (Lacks bs) (λ x. (bs ≡ x.0.now ++ (35 ∷ x.1.now)) × Lacks x.0.now) → MatchOption o (r ≡ bs) (λ x. r ≡ x.0.now) → r ≡ code_of bs
+code-found bs None r h e = e ∙ code-whole bs h
+code-found bs (Some x) r h e = e ∙ code-cut bs x.0.now x.1.now h.0 h.1
 
--- what `split_whitespace` says of an item
-pub first_of : (bs w rest : List ℕ) → (gap : List ℕ) × (bs ≡ gap ++ (w ++ rest)) × (0 < length w) × NoCharPasses is_not_whitespace gap × NoCharPasses is_whitespace w × ((more : List ℕ) × EmptyOrStartsWithPassing is_whitespace rest more) → FirstWord bs w rest
-first_of bs w rest cut = record { gap = cut.0; cut = cut.1; some = cut.2; blank = cut.3; solid = cut.4; ends = cut.5 }
-
-pub word_more : (text rest next : List ℕ) (seen : List (Bor (List ℕ))) (w : Bor (List ℕ)) (new : List (Bor (List ℕ)))
-    → BeforeWords text rest (texts seen) → FirstWord rest w.now next → new ≡ seen ++ (w ∷ []) → BeforeWords text next (texts new)
-word_more text rest next seen w new h first e = λ ws k.
-    let m : texts new ≡ texts seen ++ (w.now ∷ []) = ap texts e ∙ map-append (λ (x : Bor (List ℕ)). x.now) seen (w ∷ []) in
-    subst (Words text) (sym (append_assoc (texts seen) (w.now ∷ []) ws) ∙ ap (λ l. l ++ ws) (sym m)) (h (w.now ∷ ws) (next, first, k))
-
-pub word_end : (text rest : List ℕ) (seen : List (List ℕ)) → BeforeWords text rest seen → NoCharPasses is_not_whitespace rest → Words text seen
-word_end text rest seen h none = subst (Words text) (append-nil seen) (h [] none)
-
--- The words of a line.
-pub sentence-none : (ws : List (Bor (List ℕ))) → length ws ≡ 0 → option_map encode_all (sentence (texts ws)) ≡ Some []
-sentence-none [] e = refl
-sentence-none (w ∷ ws) e = absurd (omega arith)
+-- Words: those that `split_whitespace` gives until it ends.
+pub words-drained : (ws : List (Bor (List ℕ))) (s t : _) → Yields split_whitespace_steps s ws t → NoCharPasses is_not_whitespace (split_whitespace_rest t)
+    → Words (split_whitespace_rest s) (texts ws)
+words-drained [] s t y h = rw y h
+words-drained (w ∷ ws) s t y h =
+    let cut = y.1 in
+    (split_whitespace_rest y.0, record { gap = cut.0; cut = cut.1; some = cut.2; blank = cut.3; solid = cut.4; ends = cut.5 }, words-drained ws y.0 t y.2 h)
 
 pub sentence-named : (all : List (Bor (List ℕ))) (name : Bor (List ℕ)) (ws : List (Bor (List ℕ))) (k : Kind) → all ≡ name ∷ ws → Some k ≡ kind_of name.now
     → option_map encode_all (sentence (texts all)) ≡ option_map encode (kind_says (number_of k) (texts ws))
@@ -131,9 +127,6 @@ line-shorter w x rest some h = ⊎_elim (λ l. l) (λ ge. absurd (long ge)) (cas
     long ge = let z : h.0 ≡ 0 = omega (arith, h.3) in omega (arith, opens h.0 z h.2)
 
 module _ (text rest next line : List ℕ) (n : ℕ) (out : List ℕ) (g : Sofar text rest n out) (some : 0 < length rest) (l : IsFirstLine rest line next) where
-  pub sofar-fits : n + 1 ≤ length text
-  sofar-fits = omega (arith, g.few)
-
   pub sofar-more : (new : List ℕ) → (es : List Event) × LineSays line (Some es) × (new ≡ out ++ encode_all es) → Sofar text next (n + 1) new
   sofar-more new p = record {
     seen = g.seen ++ (p.0 ∷ []);
@@ -146,6 +139,12 @@ module _ (text rest next line : List ℕ) (n : ℕ) (out : List ℕ) (g : Sofar 
 
   pub sofar-wrong : LineSays line None → WrongAt text (n + 1)
   sofar-wrong h = (g.seen, subst (WrongAfter text) (append-nil g.seen) (g.wrong [] (line, next, some, l, h)), omega (arith, g.count))
+
+-- the refusal of a line that is wrong
+pub line-wrong : (text line old new : List ℕ) (n : ℕ) (r : Result (Unit {0}) Problem) (q : Refusal) → PutsLine line old new r → (LineSays line None → WrongAt text n)
+    → MatchResult r (λ _. ⊥) (λ p. q ≡ record { line = n; problem = p }) → Blames q.problem (WrongAt text q.line)
+line-wrong text line old new n (Ok u) q h wrong e = absurd e
+line-wrong text line old new n (Err p) q h wrong e = rw e (blames p wrong h)
 
 pub sofar-end : (text rest : List ℕ) (n : ℕ) (out : List ℕ) → Sofar text rest n out → length rest ≡ 0 → (ess : List (List Event)) × TextSays text ess × (out ≡ encode_all (all_events ess))
 sofar-end text rest n out g z = (g.seen, subst (TextSays text) (append-nil g.seen) (g.says [] z), g.items)

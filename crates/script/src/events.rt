@@ -16,13 +16,8 @@ fn put_rest<'a>(kind: Kind, words: &[&'a str], out: &mut Vec<u8>) -> Result<(), 
 {
     match kind.row() {
         Some(element) => put_row(kind, element, words, out),
-        None => {
-            if words.is_empty() {
-                Ok(())
-            } else {
-                Err(Problem::Fields { kind })
-            }
-        }
+        None if words.is_empty() => Ok(()),
+        None => Err(Problem::Fields { kind }),
     }
 }
 
@@ -31,11 +26,10 @@ pub fn put_event<'a>(kind: Kind, words: &[&'a str], out: &mut Vec<u8>) -> Result
     ensures { Puts (option_map encode (kind_says (number_of kind) (texts words.now))) out.old.items out.new.items result }
 {
     let fields = kind.fields();
-    let count = fields.len();
-    if words.len() < count {
-        return Err(Problem::Fields { kind });
-    }
+    let (words, rest) = words
+        .split_at_checked(fields.len())
+        .ok_or(Problem::Fields { kind })?;
     add(out, &[kind.number()])?;
-    put_fields(fields, &words[0..count], out)?;
-    put_rest(kind, &words[count..], out)
+    put_fields(fields, words, out)?;
+    put_rest(kind, rest, out)
 }

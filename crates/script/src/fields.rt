@@ -1,7 +1,7 @@
 // The fields of an event as words, and as bytes.
 ghost use Rattle.std.specs.Prelude.{◌≡◌, ◌≤◌, ◌++◌, length, MatchResult};
 ghost use Rattle.std.specs.Option.{option_map};
-ghost use Rattle.protocol.specs.Fields.{digits, unsigned};
+ghost use Rattle.protocol.specs.Fields.{digits};
 ghost use Rattle.script.specs.Numerals.{plain_number};
 ghost use Rattle.script.specs.Putting.{Puts, Blames, near_bytes};
 ghost use Rattle.script.specs.Tables.{word_bytes};
@@ -13,13 +13,11 @@ use crate::problem::Problem;
 pub fn add<'a>(out: &mut Vec<u8>, bytes: &[u8]) -> Result<(), Problem<'a>>
     ensures { MatchResult result (λ _. out.new.items ≡ out.old.items ++ bytes.now) (λ p. Blames p ⊥) }
 {
-    match out.extend_from_slice(bytes) {
-        Ok(()) => Ok(()),
-        Err(_) => Err(Problem::Memory),
-    }
+    out.extend_from_slice(bytes)?;
+    Ok(())
 }
 
-// A number without sign, in so many bytes.
+// A number without sign, in so many bytes. The two numbers of a field meet here alone, so they are no struct.
 fn put_plain<'a>(
     word: &'a str,
     high: u32,
@@ -29,32 +27,20 @@ fn put_plain<'a>(
     requires { width ≤ 4 }
     ensures { Puts (option_map (digits width) (plain_number high word.now)) out.old.items out.new.items result }
 {
-    match plain(word, high) {
-        Some(n) => add(out, &n.to_le_bytes()[0..width]),
-        None => Err(Problem::Number { word, low: 0, high }),
-    }
-}
-
-// A number with sign as one without, in as many bits.
-fn bits(n: i16) -> u16
-    ensures { result ≡ unsigned 32768 n }
-{
-    let n = n as i32;
-    if n < 0 { (n + 65536) as u16 } else { n as u16 }
+    let n = plain(word, high).ok_or(Problem::Number { word, low: 0, high })?;
+    add(out, &n.to_le_bytes()[..width])
 }
 
 // A number with sign, in two bytes.
 fn put_signed<'a>(word: &'a str, out: &mut Vec<u8>) -> Result<(), Problem<'a>>
     ensures { Puts (near_bytes word.now) out.old.items out.new.items result }
 {
-    match signed(word) {
-        Some(n) => add(out, &bits(n).to_le_bytes()),
-        None => Err(Problem::Number {
-            word,
-            low: -32768,
-            high: 32767,
-        }),
-    }
+    let n = signed(word).ok_or(Problem::Number {
+        word,
+        low: -32768,
+        high: 32767,
+    })?;
+    add(out, &n.to_le_bytes())
 }
 
 // What one word says.

@@ -23,6 +23,7 @@ pub enum Kind {
 }
 
 impl Kind {
+    // Of a word that is no name there is nothing to say but None, so this is no FromStr, whose error would be empty.
     pub fn named(word: &str) -> Option<Kind>
         ensures { result ≡ kind_of word.now }
     {
@@ -44,6 +45,7 @@ impl Kind {
         }
     }
 
+    // As a &'static str, which messages take beside `wants`.
     pub fn name(self) -> &'static str
         ensures { result.now ≡ name_of self }
     {
@@ -85,7 +87,7 @@ impl Kind {
         }
     }
 
-    // Its first byte.
+    // Its first byte. A method, since at its one use `number` says more than a From.
     pub fn number(self) -> u8
         ensures { result ≡ number_of self }
     {

@@ -41,32 +41,21 @@ fn to_text(rt: &HostRuntime) -> io::Result<()> {
     let description = shown::describe(rt.alloc(), bytes.as_slice())?;
     rt.stdout().write_all(description.text.as_bytes())?;
     match description.fault {
-        Some(fault) => {
-            let place = fault.place;
-            fail(
-                rt,
-                format_args!("byte {place}: no event can go on like this"),
-            )
-        }
+        Some(fault) => fail(
+            rt,
+            format_args!("byte {}: no event can go on like this", fault.place),
+        ),
         None => Ok(()),
     }
 }
 
 // What the words behind the program's name ask for.
 fn run(rt: &HostRuntime) -> io::Result<()> {
-    let mut args = env::args(rt)?;
-    let _ = args.next();
-    let first = args.next();
-    let second = args.next();
-    match first {
-        None => to_bytes(rt),
-        Some(word) => {
-            if word.as_str() == "-d" && second.is_none() {
-                to_text(rt)
-            } else {
-                fail(rt, "usage: script [-d] < input > output")
-            }
-        }
+    let words = env::args(rt)?.skip(1).collect::<Vec<String>>(rt.alloc())?;
+    match words.as_slice() {
+        [] => to_bytes(rt),
+        [word] if word.as_str() == "-d" => to_text(rt),
+        _ => fail(rt, "usage: script [-d] < input > output"),
     }
 }
 

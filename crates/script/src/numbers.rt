@@ -12,10 +12,9 @@ fn in_radix(digits: &str, radix: u32, most: u32) -> Option<u32>
     if digits.starts_with('+') {
         return None;
     }
-    match u32::from_str_radix(digits, radix) {
-        Ok(n) if n <= most => Some(n),
-        _ => None,
-    }
+    u32::from_str_radix(digits, radix)
+        .ok()
+        .filter(|n| *n <= most)
 }
 
 // The number that a word writes in decimal, or behind 0x in hexadecimal, if it is at most `most`.
@@ -29,32 +28,12 @@ pub fn plain(word: &str, most: u32) -> Option<u32>
     }
 }
 
-fn minus(n: u32) -> i16
-    requires { n ≤ 32768 }
-    ensures { result ≡ neg_ℤ (pos n) }
-{
-    (0 - n as i32) as i16
-}
-
-fn plus(n: u32) -> i16
-    requires { n ≤ 32767 }
-    ensures { result ≡ pos n }
-{
-    n as i16
-}
-
 // The number from -32768 to 32767 that a word writes.
 pub fn signed(word: &str) -> Option<i16>
     ensures { result ≡ signed_number word.now }
 {
     match word.strip_prefix('-') {
-        Some(rest) => match plain(rest, 32768) {
-            Some(n) => Some(minus(n)),
-            None => None,
-        },
-        None => match plain(word, 32767) {
-            Some(n) => Some(plus(n)),
-            None => None,
-        },
+        Some(rest) => plain(rest, 32768).map(|n| -(n as i32) as i16),
+        None => plain(word, 32767).map(|n| n as i16),
     }
 }

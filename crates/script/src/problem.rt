@@ -1,5 +1,9 @@
 // Why a line is refused.
+ghost use Rattle.std.specs.Prelude.{◌≡◌};
+ghost use Rattle.script.specs.declared.problem.Problem.TheVariants.{Memory};
+
 use crate::kinds::Kind;
+use std::alloc::AllocError;
 use std::fmt;
 
 // The words are those of the text.
@@ -16,23 +20,28 @@ pub enum Problem<'a> {
     Memory,
 }
 
+impl<'a> From<AllocError> for Problem<'a> {
+    ghost from_gives = { λ _ p. p ≡ Memory };
+
+    fn from(_: AllocError) -> Problem<'a> {
+        Problem::Memory
+    }
+}
+
 impl<'a> fmt::Display for Problem<'a> {
     fn fmt<W: fmt::Write>(&self, f: &mut fmt::Formatter<W>) -> fmt::Result {
         match self {
             Problem::Unknown { word } => write!(f, "'{word}' is no kind of event: {KINDS}"),
-            Problem::Fields { kind } => {
-                let name = kind.name();
-                let wants = kind.wants();
-                write!(f, "{name} wants {wants}")
-            }
+            Problem::Fields { kind } => write!(f, "{} wants {}", kind.name(), kind.wants()),
             Problem::Number { word, low, high } => write!(
                 f,
                 "'{word}' is no number from {low} to {high}"
             ),
-            Problem::Long { kind } => {
-                let name = kind.name();
-                write!(f, "{name} takes a row of at most 65535 numbers")
-            }
+            Problem::Long { kind } => write!(
+                f,
+                "{} takes a row of at most 65535 numbers",
+                kind.name()
+            ),
             Problem::Memory => write!(f, "no memory is left"),
         }
     }

@@ -1,10 +1,8 @@
 // Bytes to text: an event a line.
-ghost use Rattle.std.specs.Prelude.{◌≡◌, ◌+◌, ◌<◌, List, [], length, take, drop, IfOk, nat_le};
+ghost use Rattle.std.specs.Prelude.{◌≡◌, ◌+◌, List, [], length, take, drop, IfOk, nat_le};
 ghost use Rattle.std.specs.Option.{option_map};
 ghost use Rattle.model.specs.Basics.{pick};
 ghost use Rattle.model.specs.Desk as desk;
-ghost use Rattle.protocol.specs.Formats.{read_event};
-ghost use Rattle.protocol.specs.Meaning.{said, built_of};
 ghost use Rattle.script.specs.Rows.{Reads};
 
 use protocol::{Event, Fault, Kinds, Patch, read};
@@ -22,11 +20,10 @@ pub struct Shown<'a> {
 fn cut<'a>(source: &'a [u8], from: usize, size: usize) -> &'a [u8]
     ensures { result.now ≡ pick (nat_le (from + size) (length source.now)) (take size (drop from source.now)) [] }
 {
-    if from > source.len() || size > source.len() - from {
-        return &[];
-    }
-    let (_, behind) = source.split_at(from);
-    &behind[0..size]
+    source
+        .get(from..)
+        .and_then(|behind| behind.get(..size))
+        .unwrap_or(&[])
 }
 
 impl<'a> fmt::Display for Shown<'a> {
@@ -51,19 +48,13 @@ impl<'a> fmt::Display for Shown<'a> {
                 program,
                 window,
                 on,
-            } => {
-                let mark = on as u8;
-                write!(f, "show {program} {window} {mark}")
-            }
+            } => write!(f, "show {program} {window} {}", on as u8),
             Event::Fill {
                 program,
                 window,
-                patch,
+                patch: Patch { x, y, wide, high },
                 colour,
-            } => {
-                let Patch { x, y, wide, high } = patch;
-                write!(f, "fill {program} {window} {x} {y} {wide} {high} {colour}")
-            }
+            } => write!(f, "fill {program} {window} {x} {y} {wide} {high} {colour}"),
             Event::Put {
                 program,
                 window,
@@ -80,25 +71,19 @@ impl<'a> fmt::Display for Shown<'a> {
             Event::Copy {
                 program,
                 window,
-                patch,
+                patch: Patch { x, y, wide, high },
                 to_x,
                 to_y,
-            } => {
-                let Patch { x, y, wide, high } = patch;
-                write!(
-                    f,
-                    "copy {program} {window} {x} {y} {wide} {high} {to_x} {to_y}"
-                )
-            }
+            } => write!(
+                f,
+                "copy {program} {window} {x} {y} {wide} {high} {to_x} {to_y}"
+            ),
             Event::Offer { program, bytes } => {
                 write!(f, "offer {program}")?;
                 show_bytes(cut(self.source, bytes.from, bytes.count as usize), f)
             }
             Event::Point { x, y } => write!(f, "point {x} {y}"),
-            Event::Press { down } => {
-                let mark = down as u8;
-                write!(f, "press {mark}")
-            }
+            Event::Press { down } => write!(f, "press {}", down as u8),
             Event::Key { key } => write!(f, "key {key}"),
             Event::Paste => write!(f, "paste"),
         }
@@ -106,11 +91,9 @@ impl<'a> fmt::Display for Shown<'a> {
 }
 
 fn show_colours<W: fmt::Write>(row: &[u8], f: &mut fmt::Formatter<W>) -> fmt::Result {
-    for four in row.chunks(4) {
-        if let [a, b, c, d] = four {
-            let colour = u32::from_le_bytes([*a, *b, *c, *d]);
-            write!(f, " {colour}")?;
-        }
+    let (colours, _) = row.as_chunks();
+    for colour in colours {
+        write!(f, " {}", u32::from_le_bytes(*colour))?;
     }
     Ok(())
 }
@@ -134,29 +117,21 @@ const KINDS: Kinds = Kinds { built: [true; 13] };
 
 const PROGRAMS: u8 = 255;
 
-// The event at a place, and where it ends, which is behind its place.
-fn next_event(bytes: &[u8], at: usize, programs: u8, kinds: Kinds) -> Result<(Event, usize), Fault>
-    ensures value { said bytes.now result ≡ read_event (built_of kinds) programs bytes.now at }
-    ensures onward { IfOk result (λ p. at < p.1) }
-{
-    read(bytes, at, programs, kinds)
-}
-
 // The events of a row of bytes, a line each, up to the first fault.
 pub fn describe(heap: Global, bytes: &[u8]) -> Result<Description, AllocError>
     ensures { IfOk result (λ d. (es : List desk.Event) × Reads bytes.now 0 es (option_map (λ f. f.place) d.fault)) }
 {
     let mut text = String::new(heap);
     let mut at = 0;
+    // `at` goes from the end of one event to that of the next, which only reading it tells
     while at < bytes.len() {
-        match next_event(bytes, at, PROGRAMS, KINDS) {
+        match read(bytes, at, PROGRAMS, KINDS) {
             Ok((event, end)) => {
                 let shown = Shown {
                     event,
                     source: bytes,
                 };
-                let line = format!(in heap; "{shown}\n")?;
-                text.push_str(line.as_str())?;
+                writeln!(text, "{shown}")?;
                 at = end;
             }
             Err(fault) => return Ok(Description {

@@ -21,9 +21,7 @@ pub struct Refusal<'a> {
 
 impl<'a> fmt::Display for Refusal<'a> {
     fn fmt<W: fmt::Write>(&self, f: &mut fmt::Formatter<W>) -> fmt::Result {
-        let line = self.line;
-        let problem = self.problem;
-        write!(f, "line {line}: {problem}")
+        write!(f, "line {}: {}", self.line, self.problem)
     }
 }
 
@@ -31,44 +29,33 @@ impl<'a> fmt::Display for Refusal<'a> {
 pub fn code<'a>(line: &'a str) -> &'a str
     ensures { result.now ≡ code_of line.now }
 {
-    match line.split_once('#') {
-        Some((code, _)) => code,
-        None => line,
-    }
+    line.split_once('#').map_or(line, |(code, _)| code)
 }
 
 // The words of a text.
 pub fn words<'a>(heap: Global, text: &'a str) -> Result<Vec<&'a str>, AllocError>
     ensures { IfOk result (λ v. Words text.now (texts v.items)) }
 {
-    let mut found = Vec::new(heap);
-    for word in text.split_whitespace() {
-        found.push(word)?;
-    }
-    Ok(found)
+    text.split_whitespace().collect(heap)
 }
 
 // Adds the bytes of the event that the words of a line say, if there are any.
 pub fn put_words<'a>(words: &[&'a str], out: &mut Vec<u8>) -> Result<(), Problem<'a>>
     ensures { Puts (option_map encode_all (sentence (texts words.now))) out.old.items out.new.items result }
 {
-    match words.split_first() {
-        Some((name, fields)) => match Kind::named(*name) {
-            Some(kind) => put_event(kind, fields, out),
-            None => Err(Problem::Unknown { word: *name }),
-        },
-        None => Ok(()),
-    }
+    let Some((word, fields)) = words.split_first() else {
+        return Ok(());
+    };
+    let kind = Kind::named(word).ok_or(Problem::Unknown { word })?;
+    put_event(kind, fields, out)
 }
 
 // The same for a line with its comment.
 pub fn put_line<'a>(heap: Global, line: &'a str, out: &mut Vec<u8>) -> Result<(), Problem<'a>>
     ensures { PutsLine line.now out.old.items out.new.items result }
 {
-    match words(heap, code(line)) {
-        Ok(found) => put_words(found.as_slice(), out),
-        Err(_) => Err(Problem::Memory),
-    }
+    let found = words(heap, code(line))?;
+    put_words(&found, out)
 }
 
 // The bytes of the events that a text says, or the first line that is wrong.
@@ -76,13 +63,8 @@ pub fn convert<'a>(heap: Global, text: &'a str) -> Result<Vec<u8>, Refusal<'a>>
     ensures { MatchResult result (λ v. (ess : List (List Event)) × TextSays text.now ess × (v.items ≡ encode_all (all_events ess))) (λ e. Blames e.problem (WrongAt text.now e.line)) }
 {
     let mut out = Vec::new(heap);
-    let mut line: usize = 0;
-    for each in text.lines() {
-        line += 1;
-        match put_line(heap, each, &mut out) {
-            Ok(()) => {}
-            Err(problem) => return Err(Refusal { line, problem }),
-        }
+    for (line, text) in (1..).zip(text.lines()) {
+        put_line(heap, text, &mut out).map_err(|problem| Refusal { line, problem })?;
     }
     Ok(out)
 }
