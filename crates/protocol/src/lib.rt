@@ -7,15 +7,19 @@ ghost use Rattle.protocol.specs.Formats.{read_event, read_told, encode, encode_w
 ghost use Rattle.protocol.specs.Meaning.{Ends, Had, said, told_said, built_of, meaning, word_meaning, had, word_had, part, lies};
 
 mod events;
+mod fields;
+mod kinds;
 mod laws;
-mod numbers;
 mod push;
+mod reader;
 mod tell;
 mod told;
 mod types;
 mod write;
 
+use kinds::{Kind, WordKind};
 pub use laws::{events_stand, fits_stand, words_stand};
+use reader::Reader;
 pub use types::{Event, Fault, Kinds, Part, Patch, Word};
 
 // Calls are shorter than this: a longer one is refused at the last byte that a call may have.
@@ -44,11 +48,19 @@ pub fn read(call: &[u8], at: usize, programs: u8, kinds: Kinds) -> Result<(Event
     if at >= call.len() {
         return Err(Fault { place: call.len() });
     }
-    let kind = call[at];
-    if !kinds.has(kind) {
+    let number = call[at];
+    let Some(kind) = Kind::of(number) else {
+        return Err(Fault { place: at });
+    };
+    if !kinds.has(number) {
         return Err(Fault { place: at });
     }
-    events::read_kind(kind, call, at, programs)
+    let r = Reader {
+        bytes: call,
+        start: at,
+        read: 1,
+    };
+    events::read_kind(kind, r, programs)
 }
 
 // The word at the byte `at` of a row, with the program that is told it, and where it ends; or the first byte in fault.
@@ -64,11 +76,15 @@ pub fn read_word(words: &[u8], at: usize) -> Result<((u8, Word), usize), Fault>
     if at >= words.len() || words.len() - at < 2 {
         return Err(Fault { place: words.len() });
     }
-    let kind = words[at + 1];
-    if kind >= 7 {
+    let Some(kind) = WordKind::of(words[at + 1]) else {
         return Err(Fault { place: at + 1 });
-    }
-    let (word, end) = told::read_word_kind(kind, words, at)?;
+    };
+    let r = Reader {
+        bytes: words,
+        start: at,
+        read: 2,
+    };
+    let (word, end) = told::read_word_kind(kind, r)?;
     Ok(((words[at], word), end))
 }
 
@@ -82,7 +98,7 @@ pub fn colour_at(source: &[u8], row: Part, i: u16) -> Option<u32>
     if i >= row.count || !push::room(source.len(), row.from, 4 * row.count as usize) {
         return None;
     }
-    Some(numbers::read_four(source, row.from + 4 * i as usize))
+    Some(fields::four_at(source, row.from + 4 * i as usize))
 }
 
 // Writes an event, whose parts point into the source, from the byte `at` on: how many bytes it has.

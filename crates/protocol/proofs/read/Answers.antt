@@ -3,7 +3,6 @@ use Rattle.protocol.specs.Fields.{Bytes}
 use Rattle.protocol.specs.Formats.{read_event}
 use Rattle.protocol.specs.Meaning.{said, built_of}
 use Rattle.protocol.proofs.Ends.{event-ends}
-use Rattle.protocol.proofs.Had.{read-had}
 use Rattle.protocol.proofs.read.Goals as goal
 
 pub returns : goal.returns
@@ -14,5 +13,5 @@ returns c =
     record {
       value = v;
       ends = event-ends (built_of c.args.kinds) c.args.programs bs c.args.at b c.read_kind.result v;
-      had = read-had (built_of c.args.kinds) c.args.programs bs c.args.at b c.read_kind.result v c.read_kind.ensures.had;
+      had = c.read_kind.ensures.1;
     }
