@@ -1,5 +1,5 @@
 -- Numbers in bytes.
-use Rattle.std.proofs.Common.{◌≡◌, ℕ, suc, ◌+◌, ◌*◌, ◌/◌, ◌%◌, ◌<◌, ◌≤◌, true, false, List, [], ◌∷◌, ◌++◌, length, get_or, drop, ℤ, pos, ◌+ℤ◌, ◌-ℤ◌, nat_abs, ◌≤ℤ◌, ◌<ℤ◌, refl, sym, ap, ◌∙◌, inl, inr, w16, w32, to_z, arith}
+use Rattle.std.proofs.Common.{◌≡◌, ℕ, suc, ◌+◌, ◌*◌, ◌/◌, ◌%◌, ◌<◌, ◌≤◌, true, false, List, [], ◌∷◌, ◌++◌, length, get_or, drop, ℤ, pos, ◌+ℤ◌, ◌-ℤ◌, nat_abs, ◌≤ℤ◌, ◌<ℤ◌, refl, sym, ap, ◌∙◌, inl, inr, w16, w32, to_z, of_z, SFits, negsuc, arith}
 use native.Mathlib.Nat.{div-div-eq-div-mul}
 use lib.Signed.{lt_z}
 use Rattle.std.proofs.lemmas.Int.{ints, to_z_pos}
@@ -83,3 +83,12 @@ far_is n h =
       | inl a ↦ signed_low 2147483648 n _ a (to_z_pos w32 n a)
       | inr b ↦ signed_high 2147483648 n _ b (rw (le-ltb n 2147483648 b) (omega (arith, ints)))
     ]
+
+-- and its bits of a number with sign
+pub unnear_is : (z : ℤ) → SFits w16 z → of_z w16 z ≡ unsigned 32768 z
+unnear_is (pos n) f = unsigned-above 32768 (pos n) n (omega (arith, ints)) refl
+unnear_is (negsuc n) f = unsigned-below 32768 (negsuc n) _ (omega (arith, ints)) (omega (arith, ints, f))
+
+pub unfar_is : (z : ℤ) → SFits w32 z → of_z w32 z ≡ unsigned 2147483648 z
+unfar_is (pos n) f = unsigned-above 2147483648 (pos n) n (omega (arith, ints)) refl
+unfar_is (negsuc n) f = unsigned-below 2147483648 (negsuc n) _ (omega (arith, ints)) (omega (arith, ints, f))

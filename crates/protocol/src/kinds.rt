@@ -31,6 +31,12 @@ pub enum WordKind {
 }
 
 impl Kind {
+    pub fn number(self) -> u8
+        ensures { result ≡ kind_number self }
+    {
+        self as u8
+    }
+
     // The kind that has this number, if there is one.
     pub fn of(number: u8) -> Option<Kind>
         ensures { elim result [ None ↦ 13 ≤ number | Some k ↦ kind_number k ≡ number ] }
@@ -55,6 +61,12 @@ impl Kind {
 }
 
 impl WordKind {
+    pub fn number(self) -> u8
+        ensures { result ≡ word_number self }
+    {
+        self as u8
+    }
+
     // The kind of word that has this number, if there is one.
     pub fn of(number: u8) -> Option<WordKind>
         ensures { elim result [ None ↦ 7 ≤ number | Some k ↦ word_number k ≡ number ] }

@@ -10,7 +10,7 @@ mod events;
 mod fields;
 mod kinds;
 mod laws;
-mod push;
+mod line;
 mod reader;
 mod tell;
 mod told;
@@ -95,7 +95,7 @@ pub fn colour_at(source: &[u8], row: Part, i: u16) -> Option<u32>
       | Some q ↦ ((lies 4 source.now row && nat_lt i row.count) ≡ true) × (q ≡ slice_index (part 4 source.now row) i)
     ] }
 {
-    if i >= row.count || !push::room(source.len(), row.from, 4 * row.count as usize) {
+    if i >= row.count || !row.lies_in(4, source.len()) {
         return None;
     }
     Some(fields::four_at(source, row.from + 4 * i as usize))
