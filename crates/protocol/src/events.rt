@@ -1,13 +1,12 @@
 // One reader a kind of event. Each is called where the fields of the kind come next.
-ghost use Rattle.protocol.specs.Numbers.{kind_number};
 ghost use Rattle.protocol.specs.Next.{ReadEvent};
 
 use crate::kinds::Kind;
 use crate::reader::Reader;
-use crate::types::{Event, Fault, Patch};
+use crate::types::{Event, Fault};
 
 fn read_make(mut r: Reader<'_>, programs: u8) -> Result<(Event, usize), Fault>
-    ensures { ReadEvent 0 programs r.entry result }
+    ensures { ReadEvent Kind.Make programs r.entry result }
 {
     let program = r.program(programs)?;
     let left = r.near()?;
@@ -23,7 +22,7 @@ fn read_make(mut r: Reader<'_>, programs: u8) -> Result<(Event, usize), Fault>
 }
 
 fn read_close(mut r: Reader<'_>, programs: u8) -> Result<(Event, usize), Fault>
-    ensures { ReadEvent 1 programs r.entry result }
+    ensures { ReadEvent Kind.Close programs r.entry result }
 {
     let event = Event::Close {
         program: r.program(programs)?,
@@ -33,7 +32,7 @@ fn read_close(mut r: Reader<'_>, programs: u8) -> Result<(Event, usize), Fault>
 }
 
 fn read_move(mut r: Reader<'_>, programs: u8) -> Result<(Event, usize), Fault>
-    ensures { ReadEvent 2 programs r.entry result }
+    ensures { ReadEvent Kind.Move programs r.entry result }
 {
     let event = Event::Move {
         program: r.program(programs)?,
@@ -45,7 +44,7 @@ fn read_move(mut r: Reader<'_>, programs: u8) -> Result<(Event, usize), Fault>
 }
 
 fn read_raise(mut r: Reader<'_>, programs: u8) -> Result<(Event, usize), Fault>
-    ensures { ReadEvent 3 programs r.entry result }
+    ensures { ReadEvent Kind.Raise programs r.entry result }
 {
     let event = Event::Raise {
         program: r.program(programs)?,
@@ -55,7 +54,7 @@ fn read_raise(mut r: Reader<'_>, programs: u8) -> Result<(Event, usize), Fault>
 }
 
 fn read_show(mut r: Reader<'_>, programs: u8) -> Result<(Event, usize), Fault>
-    ensures { ReadEvent 4 programs r.entry result }
+    ensures { ReadEvent Kind.Show programs r.entry result }
 {
     let event = Event::Show {
         program: r.program(programs)?,
@@ -66,24 +65,19 @@ fn read_show(mut r: Reader<'_>, programs: u8) -> Result<(Event, usize), Fault>
 }
 
 fn read_fill(mut r: Reader<'_>, programs: u8) -> Result<(Event, usize), Fault>
-    ensures { ReadEvent 5 programs r.entry result }
+    ensures { ReadEvent Kind.Fill programs r.entry result }
 {
     let event = Event::Fill {
         program: r.program(programs)?,
         window: r.byte()?,
-        patch: Patch {
-            x: r.two()?,
-            y: r.two()?,
-            wide: r.two()?,
-            high: r.two()?,
-        },
+        patch: r.patch()?,
         colour: r.four()?,
     };
     Ok((event, r.end()))
 }
 
 fn read_put(mut r: Reader<'_>, programs: u8) -> Result<(Event, usize), Fault>
-    ensures { ReadEvent 6 programs r.entry result }
+    ensures { ReadEvent Kind.Put programs r.entry result }
 {
     let event = Event::Put {
         program: r.program(programs)?,
@@ -96,17 +90,12 @@ fn read_put(mut r: Reader<'_>, programs: u8) -> Result<(Event, usize), Fault>
 }
 
 fn read_copy(mut r: Reader<'_>, programs: u8) -> Result<(Event, usize), Fault>
-    ensures { ReadEvent 7 programs r.entry result }
+    ensures { ReadEvent Kind.Copy programs r.entry result }
 {
     let event = Event::Copy {
         program: r.program(programs)?,
         window: r.byte()?,
-        patch: Patch {
-            x: r.two()?,
-            y: r.two()?,
-            wide: r.two()?,
-            high: r.two()?,
-        },
+        patch: r.patch()?,
         to_x: r.two()?,
         to_y: r.two()?,
     };
@@ -114,7 +103,7 @@ fn read_copy(mut r: Reader<'_>, programs: u8) -> Result<(Event, usize), Fault>
 }
 
 fn read_offer(mut r: Reader<'_>, programs: u8) -> Result<(Event, usize), Fault>
-    ensures { ReadEvent 8 programs r.entry result }
+    ensures { ReadEvent Kind.Offer programs r.entry result }
 {
     let event = Event::Offer {
         program: r.program(programs)?,
@@ -124,7 +113,7 @@ fn read_offer(mut r: Reader<'_>, programs: u8) -> Result<(Event, usize), Fault>
 }
 
 fn read_point(mut r: Reader<'_>) -> Result<(Event, usize), Fault>
-    ensures { ReadEvent 9 0 r.entry result }
+    ensures { ReadEvent Kind.Point 0 r.entry result }
 {
     let x = r.near()?;
     let y = r.near()?;
@@ -132,14 +121,14 @@ fn read_point(mut r: Reader<'_>) -> Result<(Event, usize), Fault>
 }
 
 fn read_press(mut r: Reader<'_>) -> Result<(Event, usize), Fault>
-    ensures { ReadEvent 10 0 r.entry result }
+    ensures { ReadEvent Kind.Press 0 r.entry result }
 {
     let down = r.mark()?;
     Ok((Event::Press { down }, r.end()))
 }
 
 fn read_key(mut r: Reader<'_>) -> Result<(Event, usize), Fault>
-    ensures { ReadEvent 11 0 r.entry result }
+    ensures { ReadEvent Kind.Key 0 r.entry result }
 {
     let key = r.four()?;
     Ok((Event::Key { key }, r.end()))
@@ -147,7 +136,7 @@ fn read_key(mut r: Reader<'_>) -> Result<(Event, usize), Fault>
 
 // What follows the byte of its kind.
 pub fn read_kind(kind: Kind, r: Reader<'_>, programs: u8) -> Result<(Event, usize), Fault>
-    ensures { ReadEvent (kind_number kind) programs r.entry result }
+    ensures { ReadEvent kind programs r.entry result }
 {
     match kind {
         Kind::Make => read_make(r, programs),

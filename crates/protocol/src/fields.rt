@@ -1,14 +1,37 @@
 // Fields read one after another: what each says, or the first byte in fault.
-ghost use Rattle.std.specs.Prelude.{◌≡◌, ℕ, true, ◌+◌, ◌*◌, ◌<◌, ◌≤◌, length, drop, Ok, Err};
+ghost use Rattle.std.specs.Prelude.{◌≡◌, ℕ, true, ◌+◌, ◌*◌, ◌<◌, ◌≤◌, ◌⊎◌, length, drop, Ok, Err};
 ghost use Rattle.protocol.specs.Fields.{number, byte, plain, near, far, mark, only, row};
 ghost use Rattle.protocol.specs.Fields.{program as a_program};
 ghost use Rattle.protocol.specs.Meaning.{lies};
-ghost use Rattle.protocol.specs.Next.{Next, row_said};
+ghost use Rattle.protocol.specs.Next.{Next, NextPatch, row_said};
 
+use crate::line::room;
 use crate::reader::Reader;
-use crate::types::{Fault, Part};
+use crate::types::{Fault, Part, Patch};
+
+// Calls are shorter than this: a longer one is refused at the last byte that a call may have.
+const CALL_END: usize = 4294967296;
 
 impl Reader<'_> {
+    // A reader of a row from the byte `start` on, behind the `read` bytes there that tell the kind.
+    pub fn begin(bytes: &[u8], start: usize, read: u8) -> Result<Reader<'_>, Fault>
+        ensures { elim result [
+          | Ok r ↦ (r.bytes.now ≡ bytes.now) × (r.start ≡ start) × (r.read ≡ read)
+          | Err e ↦ (4294967296 ≤ length bytes.now × (e.place ≡ 4294967295)) ⊎ ((length bytes.now < 4294967296) × (length bytes.now < start + read) × (e.place ≡ length bytes.now))
+        ] }
+    {
+        if bytes.len() >= CALL_END {
+            return Err(Fault {
+                place: CALL_END - 1,
+            });
+        }
+        let read = read as usize;
+        if !room(bytes.len(), start, read) {
+            return Err(Fault { place: bytes.len() });
+        }
+        Ok(Reader { bytes, start, read })
+    }
+
     // The byte that comes next.
     pub fn end(&self) -> usize
         ensures { result ≡ self.now.start + self.now.read }
@@ -107,6 +130,21 @@ impl Reader<'_> {
         } else {
             Err(Fault { place })
         }
+    }
+
+    // A box of a window's own dots: four numbers of two bytes.
+    pub fn patch(&mut self) -> Result<Patch, Fault>
+        ensures found { NextPatch self.old.bytes.now (self.old.start + self.old.read) result }
+        ensures read { elim result [ Ok _ ↦ self.new.read ≡ self.old.read + 8 | Err _ ↦ Unit {0} ] }
+        ensures bytes { self.new.bytes.now ≡ self.old.bytes.now }
+        ensures start { self.new.start ≡ self.old.start }
+    {
+        Ok(Patch {
+            x: self.two()?,
+            y: self.two()?,
+            wide: self.two()?,
+            high: self.two()?,
+        })
     }
 
     // A row of elements of so many bytes each: how many there are, in two bytes, and then they.

@@ -22,9 +22,6 @@ pub use laws::{events_stand, fits_stand, words_stand};
 use reader::Reader;
 pub use types::{Event, Fault, Kinds, Part, Patch, Word};
 
-// Calls are shorter than this: a longer one is refused at the last byte that a call may have.
-const CALL_END: usize = 4294967296;
-
 impl Kinds {
     // Whether there is such a kind, and it is built.
     pub fn has(self, kind: u8) -> bool
@@ -40,27 +37,11 @@ pub fn read(call: &[u8], at: usize, programs: u8, kinds: Kinds) -> Result<(Event
     ensures ends { Ends call.now at result }
     ensures had { Had call.now result }
 {
-    if call.len() >= CALL_END {
-        return Err(Fault {
-            place: CALL_END - 1,
-        });
+    let r = Reader::begin(call, at, 1)?;
+    match Kind::of(call[at]) {
+        Some(kind) if kinds.has(call[at]) => events::read_kind(kind, r, programs),
+        _ => Err(Fault { place: at }),
     }
-    if at >= call.len() {
-        return Err(Fault { place: call.len() });
-    }
-    let number = call[at];
-    let Some(kind) = Kind::of(number) else {
-        return Err(Fault { place: at });
-    };
-    if !kinds.has(number) {
-        return Err(Fault { place: at });
-    }
-    let r = Reader {
-        bytes: call,
-        start: at,
-        read: 1,
-    };
-    events::read_kind(kind, r, programs)
 }
 
 // The word at the byte `at` of a row, with the program that is told it, and where it ends; or the first byte in fault.
@@ -68,21 +49,9 @@ pub fn read_word(words: &[u8], at: usize) -> Result<((u8, Word), usize), Fault>
     ensures value { told_said words.now result ≡ read_told words.now at }
     ensures ends { Ends words.now at result }
 {
-    if words.len() >= CALL_END {
-        return Err(Fault {
-            place: CALL_END - 1,
-        });
-    }
-    if at >= words.len() || words.len() - at < 2 {
-        return Err(Fault { place: words.len() });
-    }
+    let r = Reader::begin(words, at, 2)?;
     let Some(kind) = WordKind::of(words[at + 1]) else {
         return Err(Fault { place: at + 1 });
-    };
-    let r = Reader {
-        bytes: words,
-        start: at,
-        read: 2,
     };
     let (word, end) = told::read_word_kind(kind, r)?;
     Ok(((words[at], word), end))

@@ -7,7 +7,7 @@ ghost use Rattle.protocol.specs.Meaning.{part, lies};
 ghost use Rattle.protocol.specs.Numbers.{kind_number, word_number};
 
 use crate::kinds::{Kind, WordKind};
-use crate::types::Part;
+use crate::types::{Part, Patch};
 use std::marker::Model;
 
 // Those of the longest line that has no row.
@@ -53,7 +53,7 @@ impl Line {
     }
 
     fn with(mut self, more: &[u8]) -> Line
-        requires { length self + length more.now ≤ 15 }
+        requires { length self + length more.now ≤ MOST }
         ensures { result ≡ self ++ more.now }
     {
         let from = self.len;
@@ -63,21 +63,21 @@ impl Line {
     }
 
     pub fn byte(self, b: u8) -> Line
-        requires { length self < 15 }
+        requires { length self < MOST }
         ensures { result ≡ self ++ b ∷ [] }
     {
         self.with(&[b])
     }
 
     pub fn two(self, v: u16) -> Line
-        requires { length self + 2 ≤ 15 }
+        requires { length self + 2 ≤ MOST }
         ensures { result ≡ self ++ digits 2 v }
     {
         self.with(&v.to_le_bytes())
     }
 
     pub fn four(self, v: u32) -> Line
-        requires { length self + 4 ≤ 15 }
+        requires { length self + 4 ≤ MOST }
         ensures { result ≡ self ++ digits 4 v }
     {
         self.with(&v.to_le_bytes())
@@ -85,7 +85,7 @@ impl Line {
 
     // Two bytes with sign.
     pub fn near(self, v: i16) -> Line
-        requires { length self + 2 ≤ 15 }
+        requires { length self + 2 ≤ MOST }
         ensures { result ≡ self ++ digits 2 (unsigned 32768 v) }
     {
         self.two(v.cast_unsigned())
@@ -93,17 +93,25 @@ impl Line {
 
     // Four bytes with sign.
     pub fn far(self, v: i32) -> Line
-        requires { length self + 4 ≤ 15 }
+        requires { length self + 4 ≤ MOST }
         ensures { result ≡ self ++ digits 4 (unsigned 2147483648 v) }
     {
         self.four(v.cast_unsigned())
     }
 
     pub fn mark(self, b: bool) -> Line
-        requires { length self < 15 }
+        requires { length self < MOST }
         ensures { result ≡ self ++ marked b ∷ [] }
     {
         self.byte(u8::from(b))
+    }
+
+    // A box of a window's own dots.
+    pub fn patch(self, p: Patch) -> Line
+        requires { length self + 8 ≤ MOST }
+        ensures { result ≡ self ++ (digits 2 p.x ++ (digits 2 p.y ++ (digits 2 p.wide ++ digits 2 p.high))) }
+    {
+        self.two(p.x).two(p.y).two(p.wide).two(p.high)
     }
 
     fn as_slice(&self) -> &[u8]
@@ -133,7 +141,7 @@ impl Line {
         row: Part,
         width: u8,
     ) -> Option<usize>
-        requires { length self + 2 ≤ 15 }
+        requires { length self + 2 ≤ MOST }
         ensures { Wrote (lies width source.now row) at (self ++ spell (a_row width) (part width source.now row)) out.old out.new result }
     {
         if !row.lies_in(width, source.len()) {
@@ -162,7 +170,7 @@ impl Part {
 }
 
 // Whether `size` bytes from the byte `at` on lie in a row of so many.
-fn room(total: usize, at: usize, size: usize) -> bool
+pub fn room(total: usize, at: usize, size: usize) -> bool
     ensures { result ≡ nat_le (at + size) total }
 {
     at <= total && total - at >= size

@@ -1,7 +1,8 @@
 // One writer a kind of word: how many bytes it wrote, or none if there is no room, and then nothing is changed.
 ghost use Rattle.std.specs.Prelude.{◌≡◌, true, length};
+ghost use Rattle.model.specs.Desk as desk;
 ghost use Rattle.protocol.specs.Added.{Wrote};
-ghost use Rattle.protocol.specs.Formats.{word_line};
+ghost use Rattle.protocol.specs.Formats.{encode_word};
 ghost use Rattle.protocol.specs.Meaning.{part, lies};
 
 use crate::kinds::WordKind;
@@ -9,19 +10,19 @@ use crate::line::Line;
 use crate::types::Part;
 
 pub fn write_no(out: &mut [u8], at: usize, program: u8) -> Option<usize>
-    ensures { Wrote true at (word_line program 0 tt) out.old out.new result }
+    ensures { Wrote true at (encode_word program desk.no) out.old out.new result }
 {
     Line::to(program, WordKind::No).byte(255).write(out, at)
 }
 
 pub fn write_done(out: &mut [u8], at: usize, program: u8) -> Option<usize>
-    ensures { Wrote true at (word_line program 1 tt) out.old out.new result }
+    ensures { Wrote true at (encode_word program desk.done) out.old out.new result }
 {
     Line::to(program, WordKind::Done).byte(255).write(out, at)
 }
 
 pub fn write_made(out: &mut [u8], at: usize, program: u8, window: u8) -> Option<usize>
-    ensures { Wrote true at (word_line program 2 window) out.old out.new result }
+    ensures { Wrote true at (encode_word program (desk.made window)) out.old out.new result }
 {
     Line::to(program, WordKind::Made)
         .byte(window)
@@ -29,7 +30,7 @@ pub fn write_made(out: &mut [u8], at: usize, program: u8, window: u8) -> Option<
 }
 
 pub fn write_at(out: &mut [u8], at: usize, program: u8, window: u8, x: i32, y: i32) -> Option<usize>
-    ensures { Wrote true at (word_line program 3 window x y) out.old out.new result }
+    ensures { Wrote true at (encode_word program (desk.at window x y)) out.old out.new result }
 {
     Line::to(program, WordKind::At)
         .byte(window)
@@ -45,7 +46,7 @@ pub fn write_pressed(
     window: u8,
     down: bool,
 ) -> Option<usize>
-    ensures { Wrote true at (word_line program 4 window down) out.old out.new result }
+    ensures { Wrote true at (encode_word program (desk.pressed window down)) out.old out.new result }
 {
     Line::to(program, WordKind::Pressed)
         .byte(window)
@@ -54,7 +55,7 @@ pub fn write_pressed(
 }
 
 pub fn write_typed(out: &mut [u8], at: usize, program: u8, window: u8, key: u32) -> Option<usize>
-    ensures { Wrote true at (word_line program 5 window key) out.old out.new result }
+    ensures { Wrote true at (encode_word program (desk.typed window key)) out.old out.new result }
 {
     Line::to(program, WordKind::Typed)
         .byte(window)
@@ -70,7 +71,7 @@ pub fn write_pasted(
     window: u8,
     bytes: Part,
 ) -> Option<usize>
-    ensures { Wrote (lies 1 source.now bytes) at (word_line program 6 window (part 1 source.now bytes)) out.old out.new result }
+    ensures { Wrote (lies 1 source.now bytes) at (encode_word program (desk.pasted window (part 1 source.now bytes))) out.old out.new result }
 {
     Line::to(program, WordKind::Pasted)
         .byte(window)

@@ -1,5 +1,4 @@
 // One reader a kind of word. Each is called where the fields of the kind come next.
-ghost use Rattle.protocol.specs.Numbers.{word_number};
 ghost use Rattle.protocol.specs.Next.{ReadWord};
 
 use crate::kinds::WordKind;
@@ -7,28 +6,28 @@ use crate::reader::Reader;
 use crate::types::{Fault, Word};
 
 fn read_no(mut r: Reader<'_>) -> Result<(Word, usize), Fault>
-    ensures { ReadWord 0 r.entry result }
+    ensures { ReadWord WordKind.No r.entry result }
 {
     r.none()?;
     Ok((Word::No, r.end()))
 }
 
 fn read_done(mut r: Reader<'_>) -> Result<(Word, usize), Fault>
-    ensures { ReadWord 1 r.entry result }
+    ensures { ReadWord WordKind.Done r.entry result }
 {
     r.none()?;
     Ok((Word::Done, r.end()))
 }
 
 fn read_made(mut r: Reader<'_>) -> Result<(Word, usize), Fault>
-    ensures { ReadWord 2 r.entry result }
+    ensures { ReadWord WordKind.Made r.entry result }
 {
     let window = r.byte()?;
     Ok((Word::Made { window }, r.end()))
 }
 
 fn read_at(mut r: Reader<'_>) -> Result<(Word, usize), Fault>
-    ensures { ReadWord 3 r.entry result }
+    ensures { ReadWord WordKind.At r.entry result }
 {
     let word = Word::At {
         window: r.byte()?,
@@ -39,7 +38,7 @@ fn read_at(mut r: Reader<'_>) -> Result<(Word, usize), Fault>
 }
 
 fn read_pressed(mut r: Reader<'_>) -> Result<(Word, usize), Fault>
-    ensures { ReadWord 4 r.entry result }
+    ensures { ReadWord WordKind.Pressed r.entry result }
 {
     let word = Word::Pressed {
         window: r.byte()?,
@@ -49,7 +48,7 @@ fn read_pressed(mut r: Reader<'_>) -> Result<(Word, usize), Fault>
 }
 
 fn read_typed(mut r: Reader<'_>) -> Result<(Word, usize), Fault>
-    ensures { ReadWord 5 r.entry result }
+    ensures { ReadWord WordKind.Typed r.entry result }
 {
     let word = Word::Typed {
         window: r.byte()?,
@@ -59,7 +58,7 @@ fn read_typed(mut r: Reader<'_>) -> Result<(Word, usize), Fault>
 }
 
 fn read_pasted(mut r: Reader<'_>) -> Result<(Word, usize), Fault>
-    ensures { ReadWord 6 r.entry result }
+    ensures { ReadWord WordKind.Pasted r.entry result }
 {
     let word = Word::Pasted {
         window: r.byte()?,
@@ -70,7 +69,7 @@ fn read_pasted(mut r: Reader<'_>) -> Result<(Word, usize), Fault>
 
 // What follows the byte of its kind.
 pub fn read_word_kind(kind: WordKind, r: Reader<'_>) -> Result<(Word, usize), Fault>
-    ensures { ReadWord (word_number kind) r.entry result }
+    ensures { ReadWord kind r.entry result }
 {
     match kind {
         WordKind::No => read_no(r),

@@ -1,7 +1,8 @@
 // One writer a kind of event: how many bytes it wrote, or none if there is no room, and then nothing is changed.
 ghost use Rattle.std.specs.Prelude.{◌≡◌, true, length};
+ghost use Rattle.model.specs.Desk as desk;
 ghost use Rattle.protocol.specs.Added.{Wrote};
-ghost use Rattle.protocol.specs.Formats.{line};
+ghost use Rattle.protocol.specs.Formats.{encode};
 ghost use Rattle.protocol.specs.Meaning.{part, lies};
 
 use crate::kinds::Kind;
@@ -17,7 +18,7 @@ pub fn write_make(
     wide: u16,
     high: u16,
 ) -> Option<usize>
-    ensures { Wrote true at (line 0 program x y wide high) out.old out.new result }
+    ensures { Wrote true at (encode (desk.make program x y wide high)) out.old out.new result }
 {
     Line::of(Kind::Make)
         .byte(program)
@@ -29,7 +30,7 @@ pub fn write_make(
 }
 
 pub fn write_close(out: &mut [u8], at: usize, program: u8, window: u8) -> Option<usize>
-    ensures { Wrote true at (line 1 program window) out.old out.new result }
+    ensures { Wrote true at (encode (desk.close program window)) out.old out.new result }
 {
     Line::of(Kind::Close)
         .byte(program)
@@ -45,7 +46,7 @@ pub fn write_move(
     x: i16,
     y: i16,
 ) -> Option<usize>
-    ensures { Wrote true at (line 2 program window x y) out.old out.new result }
+    ensures { Wrote true at (encode (desk.move program window x y)) out.old out.new result }
 {
     Line::of(Kind::Move)
         .byte(program)
@@ -56,7 +57,7 @@ pub fn write_move(
 }
 
 pub fn write_raise(out: &mut [u8], at: usize, program: u8, window: u8) -> Option<usize>
-    ensures { Wrote true at (line 3 program window) out.old out.new result }
+    ensures { Wrote true at (encode (desk.raise program window)) out.old out.new result }
 {
     Line::of(Kind::Raise)
         .byte(program)
@@ -65,7 +66,7 @@ pub fn write_raise(out: &mut [u8], at: usize, program: u8, window: u8) -> Option
 }
 
 pub fn write_show(out: &mut [u8], at: usize, program: u8, window: u8, on: bool) -> Option<usize>
-    ensures { Wrote true at (line 4 program window on) out.old out.new result }
+    ensures { Wrote true at (encode (desk.show program window on)) out.old out.new result }
 {
     Line::of(Kind::Show)
         .byte(program)
@@ -82,15 +83,12 @@ pub fn write_fill(
     patch: Patch,
     colour: u32,
 ) -> Option<usize>
-    ensures { Wrote true at (line 5 program window patch.x patch.y patch.wide patch.high colour) out.old out.new result }
+    ensures { Wrote true at (encode (desk.fill program window patch.x patch.y patch.wide patch.high colour)) out.old out.new result }
 {
     Line::of(Kind::Fill)
         .byte(program)
         .byte(window)
-        .two(patch.x)
-        .two(patch.y)
-        .two(patch.wide)
-        .two(patch.high)
+        .patch(patch)
         .four(colour)
         .write(out, at)
 }
@@ -105,7 +103,7 @@ pub fn write_put(
     y: u16,
     colours: Part,
 ) -> Option<usize>
-    ensures { Wrote (lies 4 source.now colours) at (line 6 program window x y (part 4 source.now colours)) out.old out.new result }
+    ensures { Wrote (lies 4 source.now colours) at (encode (desk.put program window x y (part 4 source.now colours))) out.old out.new result }
 {
     Line::of(Kind::Put)
         .byte(program)
@@ -124,15 +122,12 @@ pub fn write_copy(
     to_x: u16,
     to_y: u16,
 ) -> Option<usize>
-    ensures { Wrote true at (line 7 program window patch.x patch.y patch.wide patch.high to_x to_y) out.old out.new result }
+    ensures { Wrote true at (encode (desk.copy program window patch.x patch.y patch.wide patch.high to_x to_y)) out.old out.new result }
 {
     Line::of(Kind::Copy)
         .byte(program)
         .byte(window)
-        .two(patch.x)
-        .two(patch.y)
-        .two(patch.wide)
-        .two(patch.high)
+        .patch(patch)
         .two(to_x)
         .two(to_y)
         .write(out, at)
@@ -145,7 +140,7 @@ pub fn write_offer(
     program: u8,
     bytes: Part,
 ) -> Option<usize>
-    ensures { Wrote (lies 1 source.now bytes) at (line 8 program (part 1 source.now bytes)) out.old out.new result }
+    ensures { Wrote (lies 1 source.now bytes) at (encode (desk.offer program (part 1 source.now bytes))) out.old out.new result }
 {
     Line::of(Kind::Offer)
         .byte(program)
@@ -153,25 +148,25 @@ pub fn write_offer(
 }
 
 pub fn write_point(out: &mut [u8], at: usize, x: i16, y: i16) -> Option<usize>
-    ensures { Wrote true at (line 9 x y) out.old out.new result }
+    ensures { Wrote true at (encode (desk.point x y)) out.old out.new result }
 {
     Line::of(Kind::Point).near(x).near(y).write(out, at)
 }
 
 pub fn write_press(out: &mut [u8], at: usize, down: bool) -> Option<usize>
-    ensures { Wrote true at (line 10 down) out.old out.new result }
+    ensures { Wrote true at (encode (desk.press down)) out.old out.new result }
 {
     Line::of(Kind::Press).mark(down).write(out, at)
 }
 
 pub fn write_key(out: &mut [u8], at: usize, key: u32) -> Option<usize>
-    ensures { Wrote true at (line 11 key) out.old out.new result }
+    ensures { Wrote true at (encode (desk.key key)) out.old out.new result }
 {
     Line::of(Kind::Key).four(key).write(out, at)
 }
 
 pub fn write_paste(out: &mut [u8], at: usize) -> Option<usize>
-    ensures { Wrote true at (line 12) out.old out.new result }
+    ensures { Wrote true at (encode desk.paste) out.old out.new result }
 {
     Line::of(Kind::Paste).write(out, at)
 }
