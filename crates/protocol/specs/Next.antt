@@ -1,6 +1,5 @@
 -- What the steps of a reader find.
 use Rattle.std.specs.Prelude.{◌≡◌, ℕ, ◌+◌, ◌<◌, ◌≤◌, List, length, drop, Ok, Err, Result}
-use Rattle.model.specs.Desk as desk
 use Rattle.protocol.specs.Fields.{Field, Says, field, decode, number}
 use Rattle.protocol.specs.Formats.{event_format, word_format}
 use Rattle.protocol.specs.Meaning.{part, said, word_said, Had}

@@ -1,6 +1,4 @@
-use Rattle.std.proofs.Common.{◌≡◌, rules}
 use Rattle.std.proofs.lemmas.Int.{to_z-of_z}
-use Rattle.protocol.specs.Formats.{word_line}
 use Rattle.protocol.proofs.tell.write_at.Goals as goal
 
 pub returns : goal.returns

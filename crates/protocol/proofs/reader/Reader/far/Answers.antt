@@ -1,4 +1,4 @@
-use Rattle.std.proofs.Common.{sym, rules}
+use Rattle.std.proofs.Common.{rules}
 use Rattle.protocol.proofs.Digits.{far_is}
 use Rattle.protocol.proofs.reader.Reader.far.Goals as goal
 
