@@ -12,7 +12,7 @@ ghost use Rattle.damage.specs.Hurts.{in_placed, Placing, hurts, Decides};
 use crate::types::{How, Hurt, Placed};
 use layout::sizes::Sizes;
 use layout::state::State;
-use protocol::Event;
+use protocol::{Event, Patch};
 use stack::state::Window;
 
 // The window in front at a dot of the screen: its number + 1, or 0.
@@ -66,12 +66,12 @@ fn side(from: i16, skip: u16, len: u16) -> (i32, i32)
 }
 
 // A box of a window's own dots, where it lies on the desk.
-fn placed(slot: Option<Window>, x: u16, y: u16, wide: u16, high: u16) -> Placed
-    ensures { (p : List ℕ) → Placing (view p slot) x y wide high result }
+fn placed(slot: Option<Window>, patch: Patch) -> Placed
+    ensures { (p : List ℕ) → Placing (view p slot) patch.x patch.y patch.wide patch.high result }
 {
     let (across, down) = corner(slot);
-    let (left, right) = side(across, x, wide);
-    let (top, below) = side(down, y, high);
+    let (left, right) = side(across, patch.x, patch.wide);
+    let (top, below) = side(down, patch.y, patch.high);
     Placed {
         left,
         top,
@@ -80,16 +80,24 @@ fn placed(slot: Option<Window>, x: u16, y: u16, wide: u16, high: u16) -> Placed
     }
 }
 
+// A box of no dots.
+const NO_DOTS: Patch = Patch {
+    x: 0,
+    y: 0,
+    wide: 0,
+    high: 0,
+};
+
 // Damage about a window, with a box of its own dots.
-fn about(before: &State, how: How, window: u8, x: u16, y: u16, wide: u16, high: u16) -> Hurt
+fn about(before: &State, how: How, window: u8, patch: Patch) -> Hurt
     ensures how { result.how ≡ how }
     ensures window { result.window ≡ window }
-    ensures area { (p : List ℕ) → Placing (window_of (desk_of before.now p) window) x y wide high result.area }
+    ensures area { (p : List ℕ) → Placing (window_of (desk_of before.now p) window) patch.x patch.y patch.wide patch.high result.area }
 {
     Hurt {
         how,
         window,
-        area: placed(before.stack.window(window), x, y, wide, high),
+        area: placed(before.stack.window(window), patch),
     }
 }
 
@@ -111,38 +119,38 @@ pub(crate) fn decide(e: Event, taken: bool, before: &State) -> Option<Hurt>
         return None;
     }
     match e {
-        Event::Close { window, .. } => Some(about(before, How::Turned, window, 0, 0, 0, 0)),
-        Event::Raise { window, .. } => Some(about(before, How::Turned, window, 0, 0, 0, 0)),
-        Event::Show { window, .. } => Some(about(before, How::Turned, window, 0, 0, 0, 0)),
+        Event::Close { window, .. } => Some(about(before, How::Turned, window, NO_DOTS)),
+        Event::Raise { window, .. } => Some(about(before, How::Turned, window, NO_DOTS)),
+        Event::Show { window, .. } => Some(about(before, How::Turned, window, NO_DOTS)),
         Event::Move { window, x, y, .. } => {
             if lies_at(before.stack.window(window), x, y) {
                 return None;
             }
-            Some(about(before, How::Moved, window, 0, 0, 0, 0))
+            Some(about(before, How::Moved, window, NO_DOTS))
         }
-        Event::Fill {
-            window,
-            x,
-            y,
-            wide,
-            high,
-            ..
-        } => Some(about(before, How::Painted, window, x, y, wide, high)),
+        Event::Fill { window, patch, .. } => Some(about(before, How::Painted, window, patch)),
         Event::Put {
             window,
             x,
             y,
             colours,
             ..
-        } => Some(about(before, How::Painted, window, x, y, colours.count, 1)),
+        } => {
+            let row = Patch {
+                x,
+                y,
+                wide: colours.count,
+                high: 1,
+            };
+            Some(about(before, How::Painted, window, row))
+        }
         Event::Copy {
             window,
-            wide,
-            high,
-            to_x: x,
-            to_y: y,
+            patch,
+            to_x,
+            to_y,
             ..
-        } => Some(about(before, How::Painted, window, x, y, wide, high)),
+        } => Some(about(before, How::Painted, window, patch.moved_to(to_x, to_y))),
         Event::Make { .. } => None,
         Event::Offer { .. } => None,
         Event::Point { .. } => None,

@@ -9,52 +9,42 @@ ghost use Rattle.stack.specs.View.{view};
 ghost use Rattle.layout.specs.Sizes.{sizes_of};
 ghost use Rattle.layout.specs.State.{Good};
 ghost use Rattle.desktop.specs.Does.{CarriedOut};
-ghost use Rattle.desktop.specs.Painting.{picture_of, area_at};
+ghost use Rattle.desktop.specs.Painting.{area_at};
 
 use crate::told::{Told, answer};
 use layout::sizes::Sizes;
 use layout::state::State;
-use pixels::{Area, Picture, Span};
-use protocol::Part;
+use pixels::{Area, Span};
+use protocol::{Part, Patch};
 use stack::state::Window;
 
-// A window's picture in the lent pictures.
-pub fn picture(w: Window) -> Picture
-    ensures { result ≡ picture_of w }
-{
-    Picture {
-        at: w.at,
-        wide: w.wide as usize,
-        high: w.high as usize,
-    }
-}
-
 // Whether a box lies in a window: its corner is a dot of the window, and its sides don't pass the window's.
-pub fn has_box(w: Window, x: u16, y: u16, wide: u16, high: u16) -> bool
-    ensures { (p : List ℕ) → result ≡ box_fits (view p (Some w)) x y wide high }
+pub fn has_box(w: Window, patch: Patch) -> bool
+    ensures { (p : List ℕ) → result ≡ box_fits (view p (Some w)) patch.x patch.y patch.wide patch.high }
 {
+    let Patch { x, y, wide, high } = patch;
     x < w.wide
         && y < w.high
         && x as u32 + wide as u32 <= w.wide as u32
         && y as u32 + high as u32 <= w.high as u32
 }
 
-// Whether a box lies in a window, and the one of its sides at to_x, to_y too.
-fn has_both(w: Window, x: u16, y: u16, wide: u16, high: u16, to_x: u16, to_y: u16) -> bool
-    ensures { (p : List ℕ) → result ≡ (box_fits (view p (Some w)) x y wide high && box_fits (view p (Some w)) to_x to_y wide high) }
+// Whether a box lies in a window, and the one of its size at to_x, to_y too.
+fn has_both(w: Window, patch: Patch, to_x: u16, to_y: u16) -> bool
+    ensures { (p : List ℕ) → result ≡ (box_fits (view p (Some w)) patch.x patch.y patch.wide patch.high && box_fits (view p (Some w)) to_x to_y patch.wide patch.high) }
 {
-    has_box(w, x, y, wide, high) && has_box(w, to_x, to_y, wide, high)
+    has_box(w, patch) && has_box(w, patch.moved_to(to_x, to_y))
 }
 
-// A box of a window's own dots.
-fn area(x: u16, y: u16, wide: u16, high: u16) -> Area
-    ensures { result ≡ area_at x y wide high }
+// A box of a window's own dots as an area of its picture.
+fn area(patch: Patch) -> Area
+    ensures { result ≡ area_at patch.x patch.y patch.wide patch.high }
 {
     Area {
-        x: x as usize,
-        y: y as usize,
-        wide: wide as usize,
-        high: high as usize,
+        x: patch.x as usize,
+        y: patch.y as usize,
+        wide: patch.wide as usize,
+        high: patch.high as usize,
     }
 }
 
@@ -64,21 +54,18 @@ pub fn fill(
     pictures: &mut [u32],
     program: u8,
     window: u8,
-    x: u16,
-    y: u16,
-    wide: u16,
-    high: u16,
+    patch: Patch,
     colour: u32,
 ) -> Option<Told>
-    ensures { (z : Sizes) → Good (sizes_of z) s.now (length pictures.old) → CarriedOut (sizes_of z) (filling program window x y wide high colour) s.now pictures.old s.now pictures.new result }
+    ensures { (z : Sizes) → Good (sizes_of z) s.now (length pictures.old) → CarriedOut (sizes_of z) (filling program window patch.x patch.y patch.wide patch.high colour) s.now pictures.old s.now pictures.new result }
 {
     let Some(w) = s.stack.owned(program, window) else {
         return answer(program, false);
     };
-    if !has_box(w, x, y, wide, high) {
+    if !has_box(w, patch) {
         return answer(program, false);
     }
-    let _ = pixels::fill(pictures, picture(w), area(x, y, wide, high), colour);
+    let _ = pixels::fill(pictures, w.picture(), area(patch), colour);
     answer(program, true)
 }
 
@@ -88,25 +75,22 @@ pub fn copy(
     pictures: &mut [u32],
     program: u8,
     window: u8,
-    x: u16,
-    y: u16,
-    wide: u16,
-    high: u16,
+    patch: Patch,
     to_x: u16,
     to_y: u16,
 ) -> Option<Told>
-    ensures { (z : Sizes) → Good (sizes_of z) s.now (length pictures.old) → CarriedOut (sizes_of z) (copying program window x y wide high to_x to_y) s.now pictures.old s.now pictures.new result }
+    ensures { (z : Sizes) → Good (sizes_of z) s.now (length pictures.old) → CarriedOut (sizes_of z) (copying program window patch.x patch.y patch.wide patch.high to_x to_y) s.now pictures.old s.now pictures.new result }
 {
     let Some(w) = s.stack.owned(program, window) else {
         return answer(program, false);
     };
-    if !has_both(w, x, y, wide, high, to_x, to_y) {
+    if !has_both(w, patch, to_x, to_y) {
         return answer(program, false);
     }
     let _ = pixels::copy(
         pictures,
-        picture(w),
-        area(x, y, wide, high),
+        w.picture(),
+        area(patch),
         to_x as usize,
         to_y as usize,
     );
@@ -129,7 +113,13 @@ pub fn put(
     let Some(w) = s.stack.owned(program, window) else {
         return answer(program, false);
     };
-    if !has_box(w, x, y, colours.count, 1) {
+    let row = Patch {
+        x,
+        y,
+        wide: colours.count,
+        high: 1,
+    };
+    if !has_box(w, row) {
         return answer(program, false);
     }
     let span = Span {
@@ -137,6 +127,6 @@ pub fn put(
         y: y as usize,
         wide: colours.count as usize,
     };
-    let _ = pixels::put(pictures, picture(w), span, call, colours.from);
+    let _ = pixels::put(pictures, w.picture(), span, call, colours.from);
     answer(program, true)
 }

@@ -1,4 +1,5 @@
 // What makers send and are told, as values.
+ghost use Rattle.std.specs.Prelude.{◌≡◌};
 
 // A row by where it lies: `count` elements from the byte `from` of the bytes that it was read from.
 // An element is four bytes in a row of colours, and one in a row of bytes.
@@ -15,6 +16,15 @@ pub struct Patch {
     pub y: u16,
     pub wide: u16,
     pub high: u16,
+}
+
+impl Patch {
+    // The box of its size at another place.
+    pub fn moved_to(self, x: u16, y: u16) -> Patch
+        ensures { result ≡ record { x = x; y = y; wide = self.wide; high = self.high } }
+    {
+        Patch { x, y, ..self }
+    }
 }
 
 // An event. Those from `Make` to `Offer` come from a program, the others from the person at the desk.

@@ -7,7 +7,7 @@ ghost use Rattle.protocol.specs.Formats.{read_event};
 ghost use Rattle.protocol.specs.Meaning.{said, built_of};
 ghost use Rattle.script.specs.Rows.{Reads};
 
-use protocol::{Event, Fault, Kinds, read};
+use protocol::{Event, Fault, Kinds, Patch, read};
 use std::alloc::{AllocError, Global};
 use std::fmt;
 
@@ -58,12 +58,12 @@ impl<'a> fmt::Display for Shown<'a> {
             Event::Fill {
                 program,
                 window,
-                x,
-                y,
-                wide,
-                high,
+                patch,
                 colour,
-            } => write!(f, "fill {program} {window} {x} {y} {wide} {high} {colour}"),
+            } => {
+                let Patch { x, y, wide, high } = patch;
+                write!(f, "fill {program} {window} {x} {y} {wide} {high} {colour}")
+            }
             Event::Put {
                 program,
                 window,
@@ -80,13 +80,11 @@ impl<'a> fmt::Display for Shown<'a> {
             Event::Copy {
                 program,
                 window,
-                x,
-                y,
-                wide,
-                high,
+                patch,
                 to_x,
                 to_y,
             } => {
+                let Patch { x, y, wide, high } = patch;
                 write!(
                     f,
                     "copy {program} {window} {x} {y} {wide} {high} {to_x} {to_y}"

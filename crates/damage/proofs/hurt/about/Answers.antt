@@ -9,5 +9,5 @@ returns c =
     record {
       how = refl;
       window = refl;
-      area = λ p. subst (λ (v : desk.Window). Placing v c.args.x c.args.y c.args.wide c.args.high c.placed.result) (c.window.ensures.value (desk_of c.args.before.now p) p refl) (c.placed.ensures p);
+      area = λ p. subst (λ (v : desk.Window). Placing v c.args.patch.x c.args.patch.y c.args.patch.wide c.args.patch.high c.placed.result) (c.window.ensures.value (desk_of c.args.before.now p) p refl) (c.placed.ensures p);
     }

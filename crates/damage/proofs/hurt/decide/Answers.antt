@@ -6,10 +6,11 @@ use Rattle.model.specs.Promise.{subject}
 use Rattle.model.specs.System.{taken, damage, same_place}
 use Rattle.protocol.specs.Meaning.{meaning}
 use Rattle.protocol.specs.declared.types.Event.{Event}
+use Rattle.protocol.specs.declared.types.Patch.{Patch}
 use Rattle.stack.specs.View.{view}
 use Rattle.layout.specs.Sizes.{sizes_of}
 use Rattle.layout.specs.State.{desk_of}
-use Rattle.damage.specs.Hurts.{Decided}
+use Rattle.damage.specs.Hurts.{Decided, Placing}
 use Rattle.damage.proofs.Deciding.{none-refused, none-about, none-moved, close-decided, raise-decided, show-decided, move-decided, fill-decided, put-decided, copy-decided, unseen-make, unseen-offer, unseen-point, unseen-press, unseen-key, unseen-paste}
 use Rattle.damage.proofs.hurt.decide.Goals as goal
 
@@ -68,7 +69,7 @@ returns-in-Fill c z bs p t =
     let m = c.in-Fill in
     let a = c.about-in-Fill in
     subst (λ (e : Event). taken (sizes_of z) d (meaning bs e) ≡ c.args.taken → Decided (sizes_of z) d (meaning bs e) a.result) (sym m.is)
-    (λ k. fill-decided z d m.program m.window a.result a.ensures.window m.x m.y m.wide m.high m.colour (k ∙ c.if-not-taken.false) a.ensures.how (a.ensures.area p)) (sym t)
+    (λ k. fill-decided z d m.program m.window a.result a.ensures.window m.patch.x m.patch.y m.patch.wide m.patch.high m.colour (k ∙ c.if-not-taken.false) a.ensures.how (a.ensures.area p)) (sym t)
 
 pub returns-in-Put : goal.returns-in-Put
 returns-in-Put c z bs p t =
@@ -83,8 +84,11 @@ returns-in-Copy c z bs p t =
     let d = desk_of c.args.before.now p in
     let m = c.in-Copy in
     let a = c.about-in-Copy in
+    let k = m.patch in
+    let w = c.moved_to.ensures in
     subst (λ (e : Event). taken (sizes_of z) d (meaning bs e) ≡ c.args.taken → Decided (sizes_of z) d (meaning bs e) a.result) (sym m.is)
-    (λ k. copy-decided z d m.program m.window a.result a.ensures.window _ _ _ _ _ _ (k ∙ c.if-not-taken.false) a.ensures.how (a.ensures.area p)) (sym t)
+    (λ t. copy-decided z d m.program m.window a.result a.ensures.window k.x k.y k.wide k.high m.to_x m.to_y (t ∙ c.if-not-taken.false) a.ensures.how
+    (subst (λ (q : Patch). Placing (window d m.window) q.x q.y q.wide q.high a.result.area) w (a.ensures.area p))) (sym t)
 
 pub returns-in-Make : goal.returns-in-Make
 returns-in-Make c z bs p t = none-about z (desk_of c.args.before.now p) (meaning bs c.args.e) (ap (λ (e : Event). subject (meaning bs e)) c.in-Make.is ∙ unseen-make _ _ _ _ _)

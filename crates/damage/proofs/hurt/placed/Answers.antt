@@ -13,8 +13,8 @@ returns c p =
     let e = c.corner-across.ensures p in
     simp to_z-of_z
     (record {
-      left = simp to_z-of_z at c.side-left.ensures.first ∙ ap (λ (v : ℤ). v +ℤ pos c.args.x) e.0;
-      top = simp to_z-of_z at c.side-top.ensures.first ∙ ap (λ (v : ℤ). v +ℤ pos c.args.y) e.1;
-      right = simp to_z-of_z at c.side-left.ensures.end ∙ ap (λ (v : ℤ). v +ℤ pos (c.args.x + c.args.wide)) e.0;
-      below = simp to_z-of_z at c.side-top.ensures.end ∙ ap (λ (v : ℤ). v +ℤ pos (c.args.y + c.args.high)) e.1;
+      left = simp to_z-of_z at c.side-left.ensures.first ∙ ap (λ (v : ℤ). v +ℤ pos c.args.patch.x) e.0;
+      top = simp to_z-of_z at c.side-top.ensures.first ∙ ap (λ (v : ℤ). v +ℤ pos c.args.patch.y) e.1;
+      right = simp to_z-of_z at c.side-left.ensures.end ∙ ap (λ (v : ℤ). v +ℤ pos (c.args.patch.x + c.args.patch.wide)) e.0;
+      below = simp to_z-of_z at c.side-top.ensures.end ∙ ap (λ (v : ℤ). v +ℤ pos (c.args.patch.y + c.args.patch.high)) e.1;
     })

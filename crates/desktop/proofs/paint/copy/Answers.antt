@@ -14,30 +14,30 @@ unfolding taken sender
 returns-in_default c z g =
     let p = c.args.pictures.now in
     let d = desk_of c.args.s.now p in
-    let e = copy c.args.program c.args.window c.args.x c.args.y c.args.wide c.args.high c.args.to_x c.args.to_y in
+    let e = copy c.args.program c.args.window c.args.patch.x c.args.patch.y c.args.patch.wide c.args.patch.high c.args.to_x c.args.to_y in
     subst (CarriedOut (sizes_of z) e c.args.s.now p _ _) (sym c.answer.ensures)
     (refusal z e c.args.s.now p c.args.program g
-    (and_left (mine d c.args.program c.args.window) (box_fits (window d c.args.window) c.args.x c.args.y c.args.wide c.args.high && box_fits (window d c.args.window) c.args.to_x c.args.to_y c.args.wide c.args.high) (c.in_default.ensures d p refl)) refl)
+    (and_left (mine d c.args.program c.args.window) (box_fits (window d c.args.window) c.args.patch.x c.args.patch.y c.args.patch.wide c.args.patch.high && box_fits (window d c.args.window) c.args.to_x c.args.to_y c.args.patch.wide c.args.patch.high) (c.in_default.ensures d p refl)) refl)
 
 pub returns-then-not-has_both : goal.returns-then-not-has_both
 unfolding taken sender
 returns-then-not-has_both c z g =
     let p = c.args.pictures.now in
     let d = desk_of c.args.s.now p in
-    let e = copy c.args.program c.args.window c.args.x c.args.y c.args.wide c.args.high c.args.to_x c.args.to_y in
+    let e = copy c.args.program c.args.window c.args.patch.x c.args.patch.y c.args.patch.wide c.args.patch.high c.args.to_x c.args.to_y in
     let o = c.in-Some.ensures in
     subst (CarriedOut (sizes_of z) e c.args.s.now p _ _) (sym c.answer-then-not-has_both.ensures)
     (refusal z e c.args.s.now p c.args.program g
-    (and_right (mine d c.args.program c.args.window) (box_fits (window d c.args.window) c.args.x c.args.y c.args.wide c.args.high && box_fits (window d c.args.window) c.args.to_x c.args.to_y c.args.wide c.args.high)
-    (ap (λ w. box_fits w c.args.x c.args.y c.args.wide c.args.high && box_fits w c.args.to_x c.args.to_y c.args.wide c.args.high) (o.value d p refl) ∙ sym (c.if-not-has_both.ensures p))) refl)
+    (and_right (mine d c.args.program c.args.window) (box_fits (window d c.args.window) c.args.patch.x c.args.patch.y c.args.patch.wide c.args.patch.high && box_fits (window d c.args.window) c.args.to_x c.args.to_y c.args.patch.wide c.args.patch.high)
+    (ap (λ w. box_fits w c.args.patch.x c.args.patch.y c.args.patch.wide c.args.patch.high && box_fits w c.args.to_x c.args.to_y c.args.patch.wide c.args.patch.high) (o.value d p refl) ∙ sym (c.if-not-has_both.ensures p))) refl)
 
 pub returns : goal.returns
 returns c z g =
     let p = c.args.pictures.now in
     let d = desk_of c.args.s.now p in
-    let e = copy c.args.program c.args.window c.args.x c.args.y c.args.wide c.args.high c.args.to_x c.args.to_y in
+    let e = copy c.args.program c.args.window c.args.patch.x c.args.patch.y c.args.patch.wide c.args.patch.high c.args.to_x c.args.to_y in
     let o = c.in-Some.ensures in
     let b = and_parts _ _ (sym (c.if-not-has_both.ensures p)) in
     subst (CarriedOut (sizes_of z) e c.args.s.now p _ _) (sym c.answer-2.ensures)
     (copy-carried z c.args.s.now p c.copy.new.pictures c.args.program c.args.window c.in-Some.w c.picture.result c.copy.result g o.slot (o.mine d p refl) (o.value d p refl) c.picture.ensures
-    c.args.x c.args.y c.args.wide c.args.high c.args.to_x c.args.to_y c.area.result b.0 b.1 c.area.ensures c.copy.ensures.answer c.copy.ensures.done)
+    c.args.patch.x c.args.patch.y c.args.patch.wide c.args.patch.high c.args.to_x c.args.to_y c.area.result b.0 b.1 c.area.ensures c.copy.ensures.answer c.copy.ensures.done)
