@@ -1,8 +1,6 @@
 pub mod Adding
-mod ByKind
 pub mod Digits
 mod Ends
-pub mod Had
 pub mod EventLaws
 mod FieldFaults
 mod FieldLaws

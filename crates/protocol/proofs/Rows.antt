@@ -1,7 +1,10 @@
 -- Numbers and their bytes, both ways, over any width.
-use Rattle.std.proofs.Common.{◌≡◌, ℕ, zero, suc, ◌+◌, ◌*◌, ◌/◌, ◌%◌, ◌^◌, ◌<◌, ◌≤◌, List, [], ◌∷◌, ◌++◌, length, get_or, take, drop, sym, refl, ap, ◌∙◌, pow-suc, mul-zero, mul-suc, arith, take-add}
+use Rattle.std.proofs.Common.{◌≡◌, ℕ, zero, suc, ◌+◌, ◌-◌, ◌*◌, ◌/◌, ◌%◌, ◌^◌, ◌<◌, ◌≤◌, true, List, [], ◌∷◌, ◌++◌, length, get_or, take, drop, sym, refl, ap, ◌∙◌, pow-suc, mul-zero, mul-suc, arith, take-add}
+use Rattle.std.proofs.lemmas.Bool.{leb-true}
 use Rattle.std.proofs.lemmas.List.{append_assoc, length-append, length-drop, get_or-drop, drop_at, drop-drop}
-use Rattle.protocol.specs.Fields.{Bytes, number, digits, numbers, all_digits}
+use Rattle.protocol.specs.Fields.{Bytes, row, spell, number, digits, numbers, all_digits}
+use Rattle.protocol.specs.Meaning.{part, lies}
+use Rattle.protocol.specs.declared.types.Part.{Part}
 
 pub bytes_drop : (n : ℕ) (xs : List ℕ) → Bytes xs → Bytes (drop n xs)
 bytes_drop n xs b i = rw (get_or-drop n xs i 0) (b (n + i))
@@ -85,10 +88,19 @@ all-digits-numbers w (suc n) xs h b =
     let l : w * n ≤ length (drop w xs) = simp length-drop (omega arith) in
     rw (e, take-add w (w * n) xs, digits_number w xs (omega arith) b, all-digits-numbers w n (drop w xs) l (bytes_drop w xs b))
 
--- how many bytes the elements of a row have, with nothing behind them
-pub length-row : (w n : ℕ) (xs : List ℕ) → length (all_digits w (numbers w n xs) ++ []) ≡ w * n
-length-row w n xs =
-    simp length-append (omega (arith, length-all-digits w (numbers w n xs), ap (λ m. w * m) (length-numbers w n xs)))
+-- a head that ends with a row's count, and then the bytes that the row points to
+pub row-bytes : (w : ℕ) (bs : List ℕ) (q : Part) (head before : List ℕ) → Bytes bs → lies w bs q ≡ true → head ≡ before ++ digits 2 q.count →
+    head ++ take (q.from + w * q.count - q.from) (drop q.from bs) ≡ before ++ spell (row w) (part w bs q)
+row-bytes w bs q head before b h e =
+    let xs = drop q.from bs in
+    let vs = numbers w q.count xs in
+    let n : q.from + w * q.count - q.from ≡ w * q.count = omega arith in
+    let l : w * q.count ≤ length xs = simp length-drop (omega (arith, leb-true (q.from + w * q.count) (length bs) h)) in
+    let d : take (q.from + w * q.count - q.from) xs ≡ all_digits w vs = ap (λ m. take m xs) n ∙ sym (all-digits-numbers w q.count xs l (bytes_drop q.from bs b)) in
+    let k : digits 2 q.count ≡ digits 2 (length vs) = ap (digits 2) (sym (length-numbers w q.count xs)) in
+    ap (λ t. t ++ take (q.from + w * q.count - q.from) xs) (e ∙ ap (λ t. before ++ t) k)
+    ∙ ap (λ t. (before ++ digits 2 (length vs)) ++ t) d
+    ∙ append_assoc before (digits 2 (length vs)) (all_digits w vs)
 
 -- a row of single bytes is the bytes themselves
 pub numbers-one : (n : ℕ) (xs : List ℕ) → n ≤ length xs → numbers 1 n xs ≡ take n xs

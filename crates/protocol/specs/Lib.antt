@@ -4,3 +4,5 @@ pub mod Formats
 pub mod Meaning
 pub mod Laws
 pub mod Fitting
+pub mod Numbers
+pub mod Next

@@ -7,19 +7,20 @@ ghost use Rattle.protocol.specs.Formats.{read_event, read_told, encode, encode_w
 ghost use Rattle.protocol.specs.Meaning.{Ends, Had, said, told_said, built_of, meaning, word_meaning, had, word_had, part, lies};
 
 mod events;
+mod fields;
+mod kinds;
 mod laws;
-mod numbers;
-mod push;
+mod line;
+mod reader;
 mod tell;
 mod told;
 mod types;
 mod write;
 
+use kinds::{Kind, WordKind};
 pub use laws::{events_stand, fits_stand, words_stand};
+use reader::Reader;
 pub use types::{Event, Fault, Kinds, Part, Patch, Word};
-
-// Calls are shorter than this: a longer one is refused at the last byte that a call may have.
-const CALL_END: usize = 4294967296;
 
 impl Kinds {
     // Whether there is such a kind, and it is built.
@@ -36,19 +37,11 @@ pub fn read(call: &[u8], at: usize, programs: u8, kinds: Kinds) -> Result<(Event
     ensures ends { Ends call.now at result }
     ensures had { Had call.now result }
 {
-    if call.len() >= CALL_END {
-        return Err(Fault {
-            place: CALL_END - 1,
-        });
+    let r = Reader::begin(call, at, 1)?;
+    match Kind::of(call[at]) {
+        Some(kind) if kinds.has(call[at]) => events::read_kind(kind, r, programs),
+        _ => Err(Fault { place: at }),
     }
-    if at >= call.len() {
-        return Err(Fault { place: call.len() });
-    }
-    let kind = call[at];
-    if !kinds.has(kind) {
-        return Err(Fault { place: at });
-    }
-    events::read_kind(kind, call, at, programs)
 }
 
 // The word at the byte `at` of a row, with the program that is told it, and where it ends; or the first byte in fault.
@@ -56,19 +49,11 @@ pub fn read_word(words: &[u8], at: usize) -> Result<((u8, Word), usize), Fault>
     ensures value { told_said words.now result ≡ read_told words.now at }
     ensures ends { Ends words.now at result }
 {
-    if words.len() >= CALL_END {
-        return Err(Fault {
-            place: CALL_END - 1,
-        });
-    }
-    if at >= words.len() || words.len() - at < 2 {
-        return Err(Fault { place: words.len() });
-    }
-    let kind = words[at + 1];
-    if kind >= 7 {
+    let r = Reader::begin(words, at, 2)?;
+    let Some(kind) = WordKind::of(words[at + 1]) else {
         return Err(Fault { place: at + 1 });
-    }
-    let (word, end) = told::read_word_kind(kind, words, at)?;
+    };
+    let (word, end) = told::read_word_kind(kind, r)?;
     Ok(((words[at], word), end))
 }
 
@@ -79,10 +64,10 @@ pub fn colour_at(source: &[u8], row: Part, i: u16) -> Option<u32>
       | Some q ↦ ((lies 4 source.now row && nat_lt i row.count) ≡ true) × (q ≡ slice_index (part 4 source.now row) i)
     ] }
 {
-    if i >= row.count || !push::room(source.len(), row.from, 4 * row.count as usize) {
+    if i >= row.count || !row.lies_in(4, source.len()) {
         return None;
     }
-    Some(numbers::read_four(source, row.from + 4 * i as usize))
+    Some(fields::four_at(source, row.from + 4 * i as usize))
 }
 
 // Writes an event, whose parts point into the source, from the byte `at` on: how many bytes it has.

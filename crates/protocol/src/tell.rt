@@ -1,60 +1,42 @@
 // One writer a kind of word: how many bytes it wrote, or none if there is no room, and then nothing is changed.
 ghost use Rattle.std.specs.Prelude.{◌≡◌, true, length};
+ghost use Rattle.model.specs.Desk as desk;
 ghost use Rattle.protocol.specs.Added.{Wrote};
-ghost use Rattle.protocol.specs.Formats.{word_line};
+ghost use Rattle.protocol.specs.Formats.{encode_word};
 ghost use Rattle.protocol.specs.Meaning.{part, lies};
 
-use crate::push::{push, push_far, push_four, push_mark, push_row, room};
+use crate::kinds::WordKind;
+use crate::line::Line;
 use crate::types::Part;
 
 pub fn write_no(out: &mut [u8], at: usize, program: u8) -> Option<usize>
-    ensures { Wrote true at (word_line program 0 tt) out.old out.new result }
+    ensures { Wrote true at (encode_word program desk.no) out.old out.new result }
 {
-    if !room(out.len(), at, 3) {
-        return None;
-    }
-    let at = push(out, at, program);
-    let at = push(out, at, 0);
-    let _ = push(out, at, 255);
-    Some(3)
+    Line::to(program, WordKind::No).byte(255).write(out, at)
 }
 
 pub fn write_done(out: &mut [u8], at: usize, program: u8) -> Option<usize>
-    ensures { Wrote true at (word_line program 1 tt) out.old out.new result }
+    ensures { Wrote true at (encode_word program desk.done) out.old out.new result }
 {
-    if !room(out.len(), at, 3) {
-        return None;
-    }
-    let at = push(out, at, program);
-    let at = push(out, at, 1);
-    let _ = push(out, at, 255);
-    Some(3)
+    Line::to(program, WordKind::Done).byte(255).write(out, at)
 }
 
 pub fn write_made(out: &mut [u8], at: usize, program: u8, window: u8) -> Option<usize>
-    ensures { Wrote true at (word_line program 2 window) out.old out.new result }
+    ensures { Wrote true at (encode_word program (desk.made window)) out.old out.new result }
 {
-    if !room(out.len(), at, 3) {
-        return None;
-    }
-    let at = push(out, at, program);
-    let at = push(out, at, 2);
-    let _ = push(out, at, window);
-    Some(3)
+    Line::to(program, WordKind::Made)
+        .byte(window)
+        .write(out, at)
 }
 
 pub fn write_at(out: &mut [u8], at: usize, program: u8, window: u8, x: i32, y: i32) -> Option<usize>
-    ensures { Wrote true at (word_line program 3 window x y) out.old out.new result }
+    ensures { Wrote true at (encode_word program (desk.at window x y)) out.old out.new result }
 {
-    if !room(out.len(), at, 11) {
-        return None;
-    }
-    let at = push(out, at, program);
-    let at = push(out, at, 3);
-    let at = push(out, at, window);
-    let at = push_far(out, at, x);
-    let _ = push_far(out, at, y);
-    Some(11)
+    Line::to(program, WordKind::At)
+        .byte(window)
+        .far(x)
+        .far(y)
+        .write(out, at)
 }
 
 pub fn write_pressed(
@@ -64,29 +46,21 @@ pub fn write_pressed(
     window: u8,
     down: bool,
 ) -> Option<usize>
-    ensures { Wrote true at (word_line program 4 window down) out.old out.new result }
+    ensures { Wrote true at (encode_word program (desk.pressed window down)) out.old out.new result }
 {
-    if !room(out.len(), at, 4) {
-        return None;
-    }
-    let at = push(out, at, program);
-    let at = push(out, at, 4);
-    let at = push(out, at, window);
-    let _ = push_mark(out, at, down);
-    Some(4)
+    Line::to(program, WordKind::Pressed)
+        .byte(window)
+        .mark(down)
+        .write(out, at)
 }
 
 pub fn write_typed(out: &mut [u8], at: usize, program: u8, window: u8, key: u32) -> Option<usize>
-    ensures { Wrote true at (word_line program 5 window key) out.old out.new result }
+    ensures { Wrote true at (encode_word program (desk.typed window key)) out.old out.new result }
 {
-    if !room(out.len(), at, 7) {
-        return None;
-    }
-    let at = push(out, at, program);
-    let at = push(out, at, 5);
-    let at = push(out, at, window);
-    let _ = push_four(out, at, key);
-    Some(7)
+    Line::to(program, WordKind::Typed)
+        .byte(window)
+        .four(key)
+        .write(out, at)
 }
 
 pub fn write_pasted(
@@ -97,18 +71,9 @@ pub fn write_pasted(
     window: u8,
     bytes: Part,
 ) -> Option<usize>
-    ensures { Wrote (lies 1 source.now bytes) at (word_line program 6 window (part 1 source.now bytes)) out.old out.new result }
+    ensures { Wrote (lies 1 source.now bytes) at (encode_word program (desk.pasted window (part 1 source.now bytes))) out.old out.new result }
 {
-    let size = bytes.count as usize;
-    if !room(source.len(), bytes.from, size) {
-        return None;
-    }
-    if !room(out.len(), at, 5 + size) {
-        return None;
-    }
-    let at = push(out, at, program);
-    let at = push(out, at, 6);
-    let at = push(out, at, window);
-    let _ = push_row(out, at, source, bytes, size);
-    Some(5 + size)
+    Line::to(program, WordKind::Pasted)
+        .byte(window)
+        .write_row(out, at, source, bytes, 1)
 }

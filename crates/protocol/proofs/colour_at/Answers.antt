@@ -11,5 +11,5 @@ returns c =
     let row = c.args.row in
     let i = c.args.i in (
       and_from _ _ (search rules) (lt-ltb i row.count (omega arith)),
-      c.read_four.ensures ∙ ap (number 4) (sym (drop-drop (4 * i) row.from bs)) ∙ sym (getD-numbers 4 row.count (drop row.from bs) i (omega arith)),
+      c.four_at.ensures ∙ ap (number 4) (sym (drop-drop (4 * i) row.from bs)) ∙ sym (getD-numbers 4 row.count (drop row.from bs) i (omega arith)),
     )

@@ -1,8 +1,0 @@
-use Rattle.std.proofs.Common.{refl, rules}
-use Rattle.protocol.proofs.Adding.{added_then, added-last, wrote}
-use Rattle.protocol.proofs.tell.write_done.Goals as goal
-
-pub returns : goal.returns
-returns c =
-    wrote _ _ 3 _ _ _ (search rules) refl
-    (added_then _ _ _ _ _ _ _ _ c.push-at.ensures.added (added_then _ _ _ _ _ _ _ _ c.push-at-2.ensures.added (added-last _ _ _ _ _ c.push.ensures.added)))

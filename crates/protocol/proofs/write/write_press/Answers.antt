@@ -1,8 +1,0 @@
-use Rattle.std.proofs.Common.{refl, rules}
-use Rattle.protocol.proofs.Adding.{added_then, added-last, wrote}
-use Rattle.protocol.proofs.write.write_press.Goals as goal
-
-pub returns : goal.returns
-returns c =
-    wrote _ _ 2 _ _ _ (search rules) refl
-    (added_then _ _ _ _ _ _ _ _ c.push-at.ensures.added (added-last _ _ _ _ _ c.push_mark.ensures.added))
