@@ -18,10 +18,10 @@ fn past(i: u16, x: i16) -> usize
 pub fn dot_at(s: &State, pictures: &[u32], i: u16, j: u16) -> u32
     ensures { i < 32768 → j < 32768 → result ≡ dot (desk_of s.now pictures.now) i j }
 {
-    if i > 32767 || j > 32767 {
+    let (Ok(x), Ok(y)) = (i16::try_from(i), i16::try_from(j)) else {
         return 0;
-    }
-    let Some((_, w)) = s.stack.front_window(i as i16, j as i16) else {
+    };
+    let Some((_, w)) = s.stack.front_window(x, y) else {
         return 0;
     };
     pixels::dot(pictures, picture(w), past(i, w.x), past(j, w.y))
