@@ -12,7 +12,7 @@ ghost use Rattle.damage.specs.Cells.{seen, OverIf, dot_row, dot_rows, words_of, 
 use crate::types::{Edges, Hurt};
 use geometry::Rect;
 use layout::state::State;
-use pixels::{Picture, Span};
+use pixels::Span;
 use stack::state::Window;
 
 // How far the place i lies past x, where it does.
@@ -50,17 +50,12 @@ fn send_line(
     let wide = cell.wide() as usize;
     match front {
         Some(w) => {
-            let picture = Picture {
-                at: w.at,
-                wide: w.wide as usize,
-                high: w.high as usize,
-            };
             let span = Span {
                 x: past(cell.left, w.x),
                 y: past(j, w.y),
                 wide,
             };
-            let _ = pixels::copy_out(pictures, picture, span, sent, at);
+            let _ = pixels::copy_out(pictures, w.picture(), span, sent, at);
             at + wide
         }
         None => {

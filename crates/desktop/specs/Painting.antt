@@ -1,17 +1,13 @@
--- A window's picture in the lent pictures, and boxes and rows of its own dots.
+-- Boxes and rows of a window's own dots, and who may paint them.
 use Rattle.std.specs.Prelude.{◌≡◌, ℕ, Bool, true, false, ◌&&◌, List, Some, None, Option}
 use Rattle.model.specs.Desk.{Desk, window, mine, box_fits}
 use Rattle.protocol.specs.declared.types.Patch.{Patch}
-use Rattle.pixels.specs.declared.Picture.{Picture}
 use Rattle.pixels.specs.declared.Area.{Area}
 use Rattle.pixels.specs.declared.Span.{Span}
 use Rattle.stack.specs.View.{view, windows_of}
 use Rattle.stack.specs.Found.{Own}
 use Rattle.stack.specs.declared.state.Window.{Window}
 use Rattle.stack.specs.declared.state.Stack.{Stack}
-
-abbrev pub picture_of : Window → Picture
-picture_of w = record { at = w.at; wide = w.wide; high = w.high }
 
 abbrev pub area_at : ℕ → ℕ → ℕ → ℕ → Area
 area_at x y w h = record { x = x; y = y; wide = w; high = h }

@@ -1,18 +1,10 @@
 // What is seen of the desk, dot by dot: every window is looked at for every dot.
-ghost use Rattle.std.specs.Prelude.{◌≡◌, ◌<◌, true, pos, ◌+ℤ◌, ◌-ℤ◌, int_le};
-ghost use Rattle.std.specs.Int.Signed.{mag};
+ghost use Rattle.std.specs.Prelude.{◌≡◌, ◌<◌};
 ghost use Rattle.model.specs.Desk.{dot};
 ghost use Rattle.layout.specs.State.{desk_of};
 
-use crate::paint::picture;
+use geometry::past;
 use layout::state::State;
-
-// How far the place i lies past x, where it does.
-fn past(i: u16, x: i16) -> usize
-    ensures { int_le x (pos i) ≡ true → result ≡ mag (pos i -ℤ x) }
-{
-    (i as i32 - x as i32).unsigned_abs() as usize
-}
 
 // The colour that is seen at a dot of the desk: the front window's dot there, or 0.
 pub fn dot_at(s: &State, pictures: &[u32], i: u16, j: u16) -> u32
@@ -24,5 +16,5 @@ pub fn dot_at(s: &State, pictures: &[u32], i: u16, j: u16) -> u32
     let Some((_, w)) = s.stack.front_window(x, y) else {
         return 0;
     };
-    pixels::dot(pictures, picture(w), past(i, w.x), past(j, w.y))
+    pixels::dot(pictures, w.picture(), past(i, w.x), past(j, w.y))
 }

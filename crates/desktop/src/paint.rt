@@ -8,25 +8,14 @@ ghost use Rattle.protocol.specs.Meaning.{part, lies};
 ghost use Rattle.stack.specs.View.{view};
 ghost use Rattle.layout.specs.Sizes.{sizes_of};
 ghost use Rattle.desktop.specs.Does.{Does};
-ghost use Rattle.desktop.specs.Painting.{picture_of, area_at, span_at, Target};
+ghost use Rattle.desktop.specs.Painting.{area_at, span_at, Target};
 
 use crate::told::{Told, answer};
 use layout::sizes::Sizes;
 use layout::state::State;
-use pixels::{Area, Picture, Span};
+use pixels::{Area, Span};
 use protocol::{Part, Patch};
 use stack::state::Window;
-
-// A window's picture in the lent pictures.
-pub fn picture(w: Window) -> Picture
-    ensures { result ≡ picture_of w }
-{
-    Picture {
-        at: w.at,
-        wide: w.wide as usize,
-        high: w.high as usize,
-    }
-}
 
 // Whether a box lies in a window: its corner is a dot of the window, and its sides don't pass the window's.
 pub fn has_box(w: Window, patch: Patch) -> bool
@@ -84,7 +73,7 @@ pub fn fill(
     let Some(w) = target(s, program, window, patch) else {
         return answer(program, false);
     };
-    let taken = pixels::fill(pictures, picture(w), area(patch), colour);
+    let taken = pixels::fill(pictures, w.picture(), area(patch), colour);
     answer(program, taken)
 }
 
@@ -108,7 +97,7 @@ pub fn copy(
     }
     let taken = pixels::copy(
         pictures,
-        picture(w),
+        w.picture(),
         area(patch),
         usize::from(to_x),
         usize::from(to_y),
@@ -138,6 +127,6 @@ pub fn put(
     let Some(w) = target(s, program, window, row) else {
         return answer(program, false);
     };
-    let taken = pixels::put(pictures, picture(w), span(row), call, colours.from);
+    let taken = pixels::put(pictures, w.picture(), span(row), call, colours.from);
     answer(program, taken)
 }
