@@ -18,6 +18,7 @@ use protocol::{Part, Patch};
 use stack::state::Window;
 
 // Whether a box lies in a window: its corner is a dot of the window, and its sides don't pass the window's.
+#[tactic(auto, unfolding(model::specs::Desk::box_fits))]
 pub fn has_box(w: Window, patch: Patch) -> bool
     ensures { (p : List ℕ) → result ≡ box_fits (view p (Some w)) patch.x patch.y patch.wide patch.high }
 {
@@ -58,6 +59,8 @@ fn span(row: Patch) -> Span
         wide: usize::from(row.wide),
     }
 }
+
+// Each of the three kinds of paint answers by itself: one function that takes the painter as a closure would need a contract over all painters.
 
 // The box has one colour.
 pub fn fill(

@@ -116,6 +116,7 @@ fn listener(s: &State, x: i16, y: i16) -> Option<(u8, Window)>
 fn nearest_dot(a: i16, n: u32) -> i16
     ensures { n ≤ 4096 → result ≡ clamp a n }
 {
+    // No `try_from`: it would add a branch that no place takes.
     geometry::nearest(a, n.min(4096) as u16)
 }
 
