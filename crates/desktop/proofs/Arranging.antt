@@ -1,5 +1,5 @@
 -- Windows that are moved, shown and raised.
-use Rattle.std.proofs.Common.{◌≡◌, ℕ, zero, suc, ◌+◌, ◌<◌, Bool, true, false, eqb, ltb, List, [], ◌∷◌, ◌++◌, length, get_or, set, ℤ, Some, None, Option, sym, refl, ap, ◌∙◌, subst, inl, inr, arith, lt-ltb, eq-eqb, ne_eqb}
+use Rattle.std.proofs.Common.{◌≡◌, ℕ, zero, suc, ◌+◌, ◌<◌, Bool, true, false, eqb, ltb, List, [], ◌∷◌, ◌++◌, length, get_or, set, is_some, ℤ, Some, None, Option, sym, refl, ap, ◌∙◌, subst, inl, inr, arith, lt-ltb, eq-eqb, ne_eqb}
 use Rattle.std.proofs.lemmas.Bool.{cases_eq, both_ways}
 use Rattle.model.specs.Basics.{pick}
 use Rattle.model.specs.Desk as desk
@@ -9,6 +9,7 @@ use Rattle.model.proofs.Windows.{mine-there}
 use Rattle.model.proofs.Order.{one_same, one-other}
 use Rattle.stack.specs.View.{view, slots_of, windows_of, order_of, placed, shown_as, put_at, put_on, size_of}
 use Rattle.stack.specs.Packed.{Packed, Begins}
+use Rattle.stack.specs.Found.{Owned}
 use Rattle.stack.specs.declared.state.Window.{Window}
 use Rattle.stack.specs.declared.state.Stack.{Stack}
 use Rattle.stack.proofs.Slots.{order-few, window-at, slot-low}
@@ -18,6 +19,7 @@ use Rattle.layout.specs.State.{desk_of, Good}
 use Rattle.layout.specs.declared.sizes.Sizes.{Sizes}
 use Rattle.layout.specs.declared.state.State.{State}
 use Rattle.desktop.specs.Does.{CarriedOut, answered}
+use Rattle.desktop.specs.declared.told.Told.{Told}
 use Rattle.desktop.proofs.Carrying.{carried, picked}
 
 -- the state with other windows and another order
@@ -67,21 +69,21 @@ module _ (z : Sizes) (s : State) (t : Stack) (p : List ℕ) (g : Good (sizes_of 
   size-on v None = refl
   size-on v (Some w) = refl
 
-  pub moved : (c n : ℕ) (x y x' y' : ℤ) (b : Bool) → b ≡ mine (desk_of s p) c n →
+  pub moved : {r : Option Told} (c n : ℕ) (x y x' y' : ℤ) (b : Bool) → r ≡ answered c b → b ≡ mine (desk_of s p) c n →
       windows_of t p ≡ pick (mine (desk_of s p) c n) (set (windows_of s.stack p) n (placed (window (desk_of s p) n) c x y)) (windows_of s.stack p) →
-      slots_of t ≡ pick b (set (slots_of s.stack) n (put_at x' y' (get_or (slots_of s.stack) n None))) (slots_of s.stack) → CarriedOut (sizes_of z) (move c n x y) s p (with-stack s t) p (answered c b)
+      slots_of t ≡ pick b (set (slots_of s.stack) n (put_at x' y' (get_or (slots_of s.stack) n None))) (slots_of s.stack) → CarriedOut (sizes_of z) (move c n x y) s p (with-stack s t) p r
   unfolding does
-  moved c n x y x' y' b a e f =
-      subst (λ v. CarriedOut (sizes_of z) (move c n x y) s p (with-stack s t) p (answered c v)) (sym a)
+  moved c n x y x' y' b q a e f =
+      subst (CarriedOut (sizes_of z) (move c n x y) s p (with-stack s t) p) (sym (q ∙ ap (answered c) a))
       (picked z (move c n x y) s (with-stack s t) p p c (mine (desk_of s p) c n) (with_window (desk_of s p) n (placed (window (desk_of s p) n) c x y)) g refl l
       (changed-packed b n (put_at x' y') (begins-at x' y') (size-at x' y') f) refl (changed-desk c n _ e))
 
-  pub shown : (c n : ℕ) (v : Bool) (b : Bool) → b ≡ mine (desk_of s p) c n →
+  pub shown : {r : Option Told} (c n : ℕ) (v : Bool) (b : Bool) → r ≡ answered c b → b ≡ mine (desk_of s p) c n →
       windows_of t p ≡ pick (mine (desk_of s p) c n) (set (windows_of s.stack p) n (shown_as (window (desk_of s p) n) c v)) (windows_of s.stack p) →
-      slots_of t ≡ pick b (set (slots_of s.stack) n (put_on v (get_or (slots_of s.stack) n None))) (slots_of s.stack) → CarriedOut (sizes_of z) (show c n v) s p (with-stack s t) p (answered c b)
+      slots_of t ≡ pick b (set (slots_of s.stack) n (put_on v (get_or (slots_of s.stack) n None))) (slots_of s.stack) → CarriedOut (sizes_of z) (show c n v) s p (with-stack s t) p r
   unfolding does
-  shown c n v b a e f =
-      subst (λ u. CarriedOut (sizes_of z) (show c n v) s p (with-stack s t) p (answered c u)) (sym a)
+  shown c n v b q a e f =
+      subst (CarriedOut (sizes_of z) (show c n v) s p (with-stack s t) p) (sym (q ∙ ap (answered c) a))
       (picked z (show c n v) s (with-stack s t) p p c (mine (desk_of s p) c n) (with_window (desk_of s p) n (shown_as (window (desk_of s p) n) c v)) g refl l
       (changed-packed b n (put_on v) (begins-on v) (size-on v) f) refl (changed-desk c n _ e))
 
@@ -101,13 +103,19 @@ pub raise-room : (z : Sizes) (s : State) (p : List ℕ) (c n : ℕ) → Good (si
 raise-room z s p c n g m =
     room-for-raise times times_none times_more 255 n (order_of s.stack) (order-few s.stack) ((g.sound p).once n ∙ ap (λ b. pick b 1 0) (mine-there (desk_of s p) c n m))
 
-pub raised : (z : Sizes) (s : State) (t : Stack) (p : List ℕ) (c n : ℕ) (b : Bool) → Good (sizes_of z) s (length p) → mine (desk_of s p) c n ≡ true → slots_of t ≡ slots_of s.stack → t.limit ≡ s.stack.limit →
+-- whether the window n is the program's, by whether it was found
+pub mine-found : (s : State) (p : List ℕ) (c n : ℕ) (o : Option Window) → Owned s.stack c n o → mine (desk_of s p) c n ≡ is_some o
+mine-found s p c n None h = h (desk_of s p) p refl
+mine-found s p c n (Some w) h = h.mine (desk_of s p) p refl
+
+pub raised : {r : Option Told} (z : Sizes) (s : State) (t : Stack) (p : List ℕ) (c n : ℕ) (b : Bool) → r ≡ answered c b → Good (sizes_of z) s (length p) → mine (desk_of s p) c n ≡ true → slots_of t ≡ slots_of s.stack → t.limit ≡ s.stack.limit →
     b ≡ ltb (length (without n (order_of s.stack))) 255 → order_of t ≡ pick b (without n (order_of s.stack) ++ n ∷ []) (order_of s.stack) →
-    CarriedOut (sizes_of z) (raise c n) s p (with-stack s t) p (answered c true)
+    CarriedOut (sizes_of z) (raise c n) s p (with-stack s t) p r
 unfolding does with_order
-raised z s t p c n b g m e l a o =
+raised z s t p c n b q g m e l a o =
     let r : b ≡ true = a ∙ lt-ltb _ _ (raise-room z s p c n g m) in
-    carried z (raise c n) s (with-stack s t) p p (answered c true) refl g refl l (subst (Packed 0) (sym e) g.packed) (rw (m, e, o, r)) (rw m)
+    subst (CarriedOut (sizes_of z) (raise c n) s p (with-stack s t) p) (sym (q ∙ ap (answered c) r))
+    (carried z (raise c n) s (with-stack s t) p p (answered c true) refl g refl l (subst (Packed 0) (sym e) g.packed) (rw (m, e, o, r)) (rw m))
 
 -- where there is a free number the order has room for one more
 pub make-room : (z : Sizes) (s : State) (p : List ℕ) (n : ℕ) → Good (sizes_of z) s (length p) → n < s.stack.limit → get_or (slots_of s.stack) n None ≡ None → length (order_of s.stack) < 255

@@ -103,9 +103,11 @@ pub carried : (z : Sizes) (e : Event) (s s' : State) (p p' : List ℕ) (r : Opti
 carried z e s s' p p' r b g l m k d t = carried-to z e s s' p p' r b g (ap length l) m k d t (λ _. l)
 
 -- a request that is refused leaves all as it was
-pub refusal : (z : Sizes) (e : Event) (s : State) (p : List ℕ) (c : ℕ) → Good (sizes_of z) s (length p) → taken (sizes_of z) (desk_of s p) e ≡ false → (c, no) ∷ [] ≡ sender e → CarriedOut (sizes_of z) e s p s p (answered c false)
-refusal z e s p c g f t =
-    carried z e s s p p (answered c false) refl g refl refl g.packed (sym (refused (sizes_of z) (desk_of s p) e f)) (t ∙ sym (refused-told (sizes_of z) (desk_of s p) e f))
+pub refusal : {e : Event} {s : State} {p : List ℕ} {r : Option Told} (z : Sizes) (c : ℕ) → r ≡ answered c false → Good (sizes_of z) s (length p) → taken (sizes_of z) (desk_of s p) e ≡ false → (c, no) ∷ [] ≡ sender e →
+    CarriedOut (sizes_of z) e s p s p r
+refusal {e = e} {s = s} {p = p} z c q g f t =
+    subst (CarriedOut (sizes_of z) e s p s p) (sym q)
+    (carried z e s s p p (answered c false) refl g refl refl g.packed (sym (refused (sizes_of z) (desk_of s p) e f)) (t ∙ sym (refused-told (sizes_of z) (desk_of s p) e f)))
 
 -- a request that is taken or not
 pub picked : (z : Sizes) (e : Event) (s s' : State) (p p' : List ℕ) (c : ℕ) (b : Bool) (d : Desk) → Good (sizes_of z) s (length p) → p' ≡ p → s'.stack.limit ≡ s.stack.limit →

@@ -85,14 +85,14 @@ made-carried z s t p q c n wide high used at size x y x' y' b ex ey g f e u m k'
     carried-to z (make c x y wide high) s (with-stack s t) p q (told-made c n) refl g op.len l (subst (Packed 0) (sym k) (packed-is 0 _))
     (rw (tk, ← f, vs, o, full)) (rw (tk, ← f)) (λ h. absurd (both_ways _ h tk))
 
-pub closed-carried : (z : Sizes) (s : State) (t : Stack) (p q : List ℕ) (c n used size : ℕ) (w : Window) (keys held : Option ℕ) → Good (sizes_of z) s (length p) →
+pub closed-carried : {r : Option Told} (z : Sizes) (s : State) (t : Stack) (p q : List ℕ) (c n used size : ℕ) (w : Window) (keys held : Option ℕ) → r ≡ answered c true → Good (sizes_of z) s (length p) →
     get_or (slots_of s.stack) n None ≡ Some w → mine (desk_of s p) c n ≡ true → used ≡ area (windows_of s.stack p) →
     slots_of t ≡ packed 0 (set (slots_of s.stack) n None) → t.limit ≡ s.stack.limit → order_of t ≡ without n (order_of s.stack) →
     numbered keys ≡ pick (eqb (numbered s.keys) (suc n)) 0 (numbered s.keys) → numbered held ≡ pick (eqb (numbered s.held) (suc n)) 0 (numbered s.held) →
     size ≡ w.wide * w.high → (w.at + size ≤ used → used ≤ length p → Closed w.at size used p q) →
-    CarriedOut (sizes_of z) (close c n) s p (record { stack = t; x = s.x; y = s.y; keys = keys; held = held; clip = s.clip }) q (answered c true)
+    CarriedOut (sizes_of z) (close c n) s p (record { stack = t; x = s.x; y = s.y; keys = keys; held = held; clip = s.clip }) q r
 unfolding does with_hands with_order with_window taken
-closed-carried z s t p q c n used size w keys held g e m u k l o ks hs es h =
+closed-carried z s t p q c n used size w keys held a g e m u k l o ks hs es h =
     let st : w.at ≡ ending n 0 (slots_of s.stack) = begins-at 0 n (slots_of s.stack) w g.packed e in
     let us : ending (length (slots_of s.stack)) 0 (slots_of s.stack) ≡ used = used-is s p ∙ sym u in
     let nx = ending-next n 0 (slots_of s.stack) in
@@ -107,4 +107,5 @@ closed-carried z s t p q c n used size w keys held g e m u k l o ks hs es h =
     ap (λ j. get_or q (j + i) 0) (sym st) ∙ cl.behind i (omega (arith, st, us, sz, a)) ∙ ap (λ j. get_or p (j + w.wide * w.high + i) 0) st ∙
     ap (λ j. get_or p (ending n 0 (slots_of s.stack) + j + i) 0) (sym sz)) ∙
     ap (λ os. set (map (view p) os) n nothing) (packed-same 0 (slots_of s.stack) g.packed) in
-    carried-to z (close c n) s _ p q (answered c true) refl g cl.len l (subst (Packed 0) (sym k) (packed-is 0 _)) (rw (m, vs, o, ks, hs)) (rw m) (λ h. absurd (both_ways _ h m))
+    subst (CarriedOut (sizes_of z) (close c n) s p _ q) (sym a)
+    (carried-to z (close c n) s _ p q (answered c true) refl g cl.len l (subst (Packed 0) (sym k) (packed-is 0 _)) (rw (m, vs, o, ks, hs)) (rw m) (λ h. absurd (both_ways _ h m)))

@@ -1,7 +1,7 @@
 -- Windows that are painted.
-use Rattle.std.proofs.Common.{◌≡◌, ℕ, ◌+◌, ◌*◌, ◌<◌, ◌≤◌, Bool, true, ◌&&◌, ltb, leb, ◌⊎◌, List, [], ◌∷◌, map, length, get_or, drop, set, Some, None, sym, refl, ap, ◌∙◌, subst, add-zero, arith, ltb-true, leb-true}
+use Rattle.std.proofs.Common.{◌≡◌, ℕ, ◌+◌, ◌*◌, ◌<◌, ◌≤◌, Bool, true, false, ◌&&◌, ltb, leb, ◌⊎◌, List, [], ◌∷◌, map, length, get_or, drop, set, Some, None, Option, sym, refl, ap, ◌∙◌, subst, add-zero, arith, ltb-true, leb-true}
 use mathlib.Core.Path.{fun_ext}
-use Rattle.std.proofs.lemmas.Bool.{and_parts, both_ways}
+use Rattle.std.proofs.lemmas.Bool.{and_left, and_parts, both_ways}
 use Rattle.std.proofs.lemmas.List.{same_lists, get_or-drop, get_or_default, drop-drop}
 use Rattle.model.specs.Desk as desk
 use Rattle.model.specs.Desk.{Desk, Event, Word, window, with_window, painted, mine, does, done, box_fits, fill, put, copy}
@@ -9,14 +9,17 @@ use Rattle.model.specs.System.{taken}
 use Rattle.protocol.specs.Fields.{number}
 use Rattle.protocol.specs.Meaning.{part, lies}
 use Rattle.protocol.specs.declared.types.Part.{Part}
+use Rattle.protocol.specs.declared.types.Patch.{Patch}
 use Rattle.protocol.proofs.Rows.{length-numbers, getD-numbers}
 use Rattle.pixels.specs.Pictures as pixels
 use Rattle.pixels.specs.Pictures.{Painted, fits, filled, copy_fits, copied, put_in}
 use Rattle.pixels.specs.declared.Picture.{Picture}
 use Rattle.pixels.specs.declared.Area.{Area}
+use Rattle.pixels.specs.declared.Span.{Span}
 use Rattle.pixels.specs.Colours.{colours_in, colour_at, put_fits}
 use Rattle.pixels.proofs.Laws.{colours-length, colours-place, fits-yes, copy_fits-yes, put_fits-yes}
 use Rattle.stack.specs.View.{view, dots_of, picture_of, slots_of, windows_of, begun, size_of}
+use Rattle.stack.specs.Found.{Own}
 use Rattle.stack.specs.declared.state.Window.{Window}
 use Rattle.stack.proofs.Packing.{ending}
 use Rattle.stack.proofs.Packed.{packed-same, begins-at, ending-next, ending-area, painted-views}
@@ -25,7 +28,8 @@ use Rattle.layout.specs.State.{desk_of, Good}
 use Rattle.layout.specs.declared.sizes.Sizes.{Sizes}
 use Rattle.layout.specs.declared.state.State.{State}
 use Rattle.desktop.specs.Does.{CarriedOut, answered}
-use Rattle.desktop.specs.Painting.{area_at, span_at}
+use Rattle.desktop.specs.declared.told.Told.{Told}
+use Rattle.desktop.specs.Painting.{area_at, span_at, paintable}
 use Rattle.desktop.proofs.Carrying.{carried-to}
 use Rattle.desktop.proofs.Arranging.{desk-with}
 
@@ -49,13 +53,15 @@ unfolding with-dots painted pixels.dots_of
 view-by p q w paint h = ap (with-dots w) (fun_ext (λ i. fun_ext (λ j. h.dots i j)))
 
 -- a window's picture is painted, and all else is as it was
-pub painted-carried : (z : Sizes) (e : Event) (s : State) (p q : List ℕ) (c n : ℕ) (w : Window) (paint : (ℕ → ℕ → ℕ) → ℕ → ℕ → ℕ) → Good (sizes_of z) s (length p) →
-    get_or (slots_of s.stack) n None ≡ Some w → window (desk_of s p) n ≡ view p (Some w) → Painted (picture_of w) paint p q →
+painted-carried : {t : Option Told} (z : Sizes) (e : Event) (s : State) (p q : List ℕ) (c n : ℕ) (w : Window) (paint : (ℕ → ℕ → ℕ) → ℕ → ℕ → ℕ) → t ≡ answered c true → Good (sizes_of z) s (length p) →
+    Own s.stack c n w → Painted (picture_of w) paint p q →
     does (sizes_of z) (desk_of s p) e ≡ (with_window (desk_of s p) n (painted (window (desk_of s p) n) (paint (window (desk_of s p) n).dots)), (c, done) ∷ []) → taken (sizes_of z) (desk_of s p) e ≡ true →
-    CarriedOut (sizes_of z) e s p s q (answered c true)
+    CarriedOut (sizes_of z) e s p s q t
 unfolding with_window
-painted-carried z e s p q c n w paint g o v h d k =
+painted-carried z e s p q c n w paint et g own h d k =
     let os = slots_of s.stack in
+    let o = own.slot in
+    let v : window (desk_of s p) n ≡ view p (Some w) = own.value (desk_of s p) p refl in
     let st = begins-at 0 n os w g.packed o in
     let pk = packed-same 0 os g.packed in
     let at-it : begun (ending n 0 os) (Some w) ≡ Some w = ap (λ k. begun k (Some w)) (sym st) in
@@ -67,8 +73,9 @@ painted-carried z e s p q c n w paint g o v h d k =
     ap (set (map (view p) os) n) (view-by p q w paint h) in
     let ws : windows_of s.stack q ≡ set (windows_of s.stack p) n (painted (window (desk_of s p) n) (paint (window (desk_of s p) n).dots)) =
     vs ∙ ap (λ (u : desk.Window). set (windows_of s.stack p) n (painted u (paint u.dots))) (sym v) in
-    carried-to z e s s p q (answered c true) refl g h.len refl g.packed
-    (ap (λ us. desk-with (desk_of s p) us (desk_of s p).order) ws ∙ ap (λ (r : Desk × List (ℕ × Word)). r.0) (sym d)) (ap (λ (r : Desk × List (ℕ × Word)). r.1) (sym d)) (λ f. absurd (both_ways _ f k))
+    subst (CarriedOut (sizes_of z) e s p s q) (sym et)
+    (carried-to z e s s p q (answered c true) refl g h.len refl g.packed
+    (ap (λ us. desk-with (desk_of s p) us (desk_of s p).order) ws ∙ ap (λ (r : Desk × List (ℕ × Word)). r.0) (sym d)) (ap (λ (r : Desk × List (ℕ × Word)). r.1) (sym d)) (λ f. absurd (both_ways _ f k)))
 
 -- a box that lies in a window lies in its picture
 pub record Boxed (w : Window) (x y a b : ℕ) : Type 0 where
@@ -105,40 +112,53 @@ colours-part bs q =
     sym (four (drop (4 * k) (drop q.from bs))) ∙ sym (getD-numbers 4 q.count (drop q.from bs) k b) ∙
     get_or_default (part 4 bs q) k 0 d (let n = length-numbers 4 q.count (drop q.from bs) in omega (arith, n)))
 
--- the three kinds of paint
-module _ (z : Sizes) (s : State) (p q : List ℕ) (c n : ℕ) (w : Window) (pic : Picture) (r : Bool) (g : Good (sizes_of z) s (length p)) (o : get_or (slots_of s.stack) n None ≡ Some w)
-    (m : mine (desk_of s p) c n ≡ true) (v : window (desk_of s p) n ≡ view p (Some w)) (ep : pic ≡ picture_of w) where
-  in_box-of : (x y a b : ℕ) → box_fits (view p (Some w)) x y a b ≡ true → box_fits (window (desk_of s p) n) x y a b ≡ true
-  in_box-of x y a b t = ap (λ u. box_fits u x y a b) v ∙ t
+in_box-of : (s : State) (p : List ℕ) (c n : ℕ) (w : Window) (x y a b : ℕ) → Own s.stack c n w → box_fits (view p (Some w)) x y a b ≡ true → box_fits (window (desk_of s p) n) x y a b ≡ true
+in_box-of s p c n w x y a b o h = ap (λ u. box_fits u x y a b) (o.value (desk_of s p) p refl) ∙ h
 
-  pub fill-carried : (x y a b colour : ℕ) (ar : Area) → box_fits (view p (Some w)) x y a b ≡ true → ar ≡ area_at x y a b → r ≡ fits pic ar (length p) → (r ≡ true → Painted pic (filled ar colour) p q) →
-      CarriedOut (sizes_of z) (fill c n x y a b colour) s p s q (answered c true)
+-- the three kinds of paint of a window that the program owns, where the painter says whether its box lies in the picture
+module _ {s : State} {p q : List ℕ} {c n : ℕ} {w : Window} {pic : Picture} {r : Bool} {t : Option Told} (z : Sizes) (g : Good (sizes_of z) s (length p)) (o : Own s.stack c n w) (ep : pic ≡ picture_of w)
+    (et : t ≡ answered c r) where
+  pub fill-carried : {b : Patch} {colour : ℕ} {ar : Area} → box_fits (view p (Some w)) b.x b.y b.wide b.high ≡ true → ar ≡ area_at b.x b.y b.wide b.high → r ≡ fits pic ar (length p) →
+      (r ≡ true → Painted pic (filled ar colour) p q) → CarriedOut (sizes_of z) (fill c n b.x b.y b.wide b.high colour) s p s q t
   unfolding does taken
-  fill-carried x y a b colour ar t ea f h =
-      let bx = boxed p w x y a b t in
-      let ok : fits pic ar (length p) ≡ true = rw (ep, ea) (fits-yes (picture_of w) (area_at x y a b) (length p) (in_memory z s p n w g o) bx.across bx.down) in
-      let d = subst (λ k. Painted k (filled (area_at x y a b) colour) p q) ep (subst (λ k. Painted pic (filled k colour) p q) ea (h (f ∙ ok))) in
-      painted-carried z (fill c n x y a b colour) s p q c n w (filled (area_at x y a b) colour) g o v d (rw (m, in_box-of x y a b t)) (rw (m, in_box-of x y a b t))
+  fill-carried {b = b} {colour = colour} {ar = ar} h ea f k =
+      let bx = boxed p w b.x b.y b.wide b.high h in
+      let at = area_at b.x b.y b.wide b.high in
+      let ok : r ≡ true = f ∙ rw (ep, ea) (fits-yes (picture_of w) at (length p) (in_memory z s p n w g o.slot) bx.across bx.down) in
+      let d = subst (λ i. Painted i (filled at colour) p q) ep (subst (λ i. Painted pic (filled i colour) p q) ea (k ok)) in
+      let in_it = in_box-of s p c n w b.x b.y b.wide b.high o h in
+      painted-carried z (fill c n b.x b.y b.wide b.high colour) s p q c n w (filled at colour) (et ∙ ap (answered c) ok) g o d (rw (o.mine (desk_of s p) p refl, in_it)) (rw (o.mine (desk_of s p) p refl, in_it))
 
-  pub copy-carried : (x y a b i j : ℕ) (ar : Area) → box_fits (view p (Some w)) x y a b ≡ true → box_fits (view p (Some w)) i j a b ≡ true → ar ≡ area_at x y a b → r ≡ copy_fits pic ar i j (length p) →
-      (r ≡ true → Painted pic (copied ar i j) p q) → CarriedOut (sizes_of z) (copy c n x y a b i j) s p s q (answered c true)
+  pub copy-carried : {b : Patch} {i j : ℕ} {ar : Area} → box_fits (view p (Some w)) b.x b.y b.wide b.high ≡ true → box_fits (view p (Some w)) i j b.wide b.high ≡ true → ar ≡ area_at b.x b.y b.wide b.high →
+      r ≡ copy_fits pic ar i j (length p) → (r ≡ true → Painted pic (copied ar i j) p q) → CarriedOut (sizes_of z) (copy c n b.x b.y b.wide b.high i j) s p s q t
   unfolding does taken
-  copy-carried x y a b i j ar t u ea f h =
-      let bx = boxed p w x y a b t in
-      let by = boxed p w i j a b u in
-      let ok : copy_fits pic ar i j (length p) ≡ true =
-      rw (ep, ea) (copy_fits-yes (picture_of w) (area_at x y a b) i j (length p) (in_memory z s p n w g o) bx.across bx.down by.across by.down) in
-      let d = subst (λ k. Painted k (copied (area_at x y a b) i j) p q) ep (subst (λ k. Painted pic (copied k i j) p q) ea (h (f ∙ ok))) in
-      painted-carried z (copy c n x y a b i j) s p q c n w (copied (area_at x y a b) i j) g o v d (rw (m, in_box-of x y a b t, in_box-of i j a b u)) (rw (m, in_box-of x y a b t, in_box-of i j a b u))
+  copy-carried {b = b} {i = i} {j = j} {ar = ar} h u ea f k =
+      let bx = boxed p w b.x b.y b.wide b.high h in
+      let by = boxed p w i j b.wide b.high u in
+      let at = area_at b.x b.y b.wide b.high in
+      let ok : r ≡ true = f ∙ rw (ep, ea) (copy_fits-yes (picture_of w) at i j (length p) (in_memory z s p n w g o.slot) bx.across bx.down by.across by.down) in
+      let d = subst (λ m. Painted m (copied at i j) p q) ep (subst (λ m. Painted pic (copied m i j) p q) ea (k ok)) in
+      let in_it = in_box-of s p c n w b.x b.y b.wide b.high o h in
+      let in_to = in_box-of s p c n w i j b.wide b.high o u in
+      painted-carried z (copy c n b.x b.y b.wide b.high i j) s p q c n w (copied at i j) (et ∙ ap (answered c) ok) g o d (rw (o.mine (desk_of s p) p refl, in_it, in_to)) (rw (o.mine (desk_of s p) p refl, in_it, in_to))
 
-  pub put-carried : (x y : ℕ) (bs : List ℕ) (l : Part) → box_fits (view p (Some w)) x y l.count 1 ≡ true → lies 4 bs l ≡ true → r ≡ put_fits pic (span_at x y l.count) (length p) l.from (length bs) →
-      (r ≡ true → Painted pic (put_in x y (colours_in bs l.from l.count)) p q) → CarriedOut (sizes_of z) (put c n x y (part 4 bs l)) s p s q (answered c true)
+  pub put-carried : {x y : ℕ} {sp : Span} (bs : List ℕ) (l : Part) → box_fits (view p (Some w)) x y l.count 1 ≡ true → lies 4 bs l ≡ true → sp ≡ span_at x y l.count → r ≡ put_fits pic sp (length p) l.from (length bs) →
+      (r ≡ true → Painted pic (put_in sp.x sp.y (colours_in bs l.from sp.wide)) p q) → CarriedOut (sizes_of z) (put c n x y (part 4 bs l)) s p s q t
   unfolding does taken
-  put-carried x y bs l t e f h =
-      let bx = boxed p w x y l.count 1 t in
-      let ok : put_fits pic (span_at x y l.count) (length p) l.from (length bs) ≡ true =
-      rw ep (put_fits-yes (picture_of w) (span_at x y l.count) (length p) l.from (length bs) (in_memory z s p n w g o) bx.across bx.row (leb-true _ _ e)) in
-      let d = subst (λ k. Painted k (put_in x y (part 4 bs l)) p q) ep (subst (λ k. Painted pic (put_in x y k) p q) (colours-part bs l) (h (f ∙ ok))) in
+  put-carried {x = x} {y = y} bs l h e es f k' =
+      let k : r ≡ true → Painted pic (put_in x y (colours_in bs l.from l.count)) p q = subst (λ i. r ≡ true → Painted pic (put_in i.x i.y (colours_in bs l.from i.wide)) p q) es k' in
+      let bx = boxed p w x y l.count 1 h in
+      let ok : r ≡ true = f ∙ rw (ep, es) (put_fits-yes (picture_of w) (span_at x y l.count) (length p) l.from (length bs) (in_memory z s p n w g o.slot) bx.across bx.row (leb-true _ _ e)) in
+      let d = subst (λ m. Painted m (put_in x y (part 4 bs l)) p q) ep (subst (λ m. Painted pic (put_in x y m) p q) (colours-part bs l) (k ok)) in
       let n1 = length-numbers 4 l.count (drop l.from bs) in
-      let t' : box_fits (window (desk_of s p) n) x y (length (part 4 bs l)) 1 ≡ true = ap (λ k. box_fits (window (desk_of s p) n) x y k 1) n1 ∙ in_box-of x y l.count 1 t in
-      painted-carried z (put c n x y (part 4 bs l)) s p q c n w (put_in x y (part 4 bs l)) g o v d (rw (m, t')) (rw (m, t'))
+      let in_it : box_fits (window (desk_of s p) n) x y (length (part 4 bs l)) 1 ≡ true = ap (λ m. box_fits (window (desk_of s p) n) x y m 1) n1 ∙ in_box-of s p c n w x y l.count 1 o h in
+      painted-carried z (put c n x y (part 4 bs l)) s p q c n w (put_in x y (part 4 bs l)) (et ∙ ap (answered c) ok) g o d (rw (o.mine (desk_of s p) p refl, in_it)) (rw (o.mine (desk_of s p) p refl, in_it))
+
+-- a copy out of a box that a program may not paint is refused
+pub copy-off : (d : Desk) (c n : ℕ) (b : Patch) (i j : ℕ) → paintable d c n b ≡ false →
+    (mine d c n && (box_fits (window d n) b.x b.y b.wide b.high && box_fits (window d n) i j b.wide b.high)) ≡ false
+copy-off d c n b i j h = all_front (mine d c n) (box_fits (window d n) b.x b.y b.wide b.high) (box_fits (window d n) i j b.wide b.high) h
+  where
+    all_front : (u v w : Bool) → (u && v) ≡ false → (u && (v && w)) ≡ false
+    all_front true v w e = and_left v w e
+    all_front false v w e = refl

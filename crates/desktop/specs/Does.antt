@@ -36,3 +36,11 @@ pub record Carried (z : Sizes) (e : Event) (s : State) (p : List ℕ) (s' : Stat
 pub record CarriedOut (z : Sizes) (e : Event) (s : State) (p : List ℕ) (s' : State) (p' : List ℕ) (r : Option Told) : Type 0 where
   pub carried : Carried z e s p s' p' r
   pub had : told_had (clip_in s) r ≡ true
+
+-- that of every good state with pictures of such a length: what each function of an event promises
+abbrev pub Does : Sizes → Event → State → List ℕ → State → List ℕ → Option Told → Type 0
+Does z e s p s' p' r = Good z s (length p) → CarriedOut z e s p s' p' r
+
+-- that of an event that changes no picture, whatever the pictures are
+abbrev pub DoesUnpainted : Sizes → Event → State → State → Option Told → Type 0
+DoesUnpainted z e s s' r = (p : List ℕ) → Does z e s p s' p r

@@ -1,5 +1,5 @@
 -- Windows that have the keys or the pointer, and the clipboard.
-use Rattle.std.specs.Prelude.{◌≡◌, ℕ, List, ℤ, Some, None, Option, slice_index_or}
+use Rattle.std.specs.Prelude.{◌≡◌, ℕ, Bool, true, false, List, ℤ, Some, None, Option, slice_index_or}
 use Rattle.few.specs.Held.{held}
 use Rattle.protocol.specs.Meaning.{part}
 use Rattle.protocol.specs.declared.types.Part.{Part}
@@ -31,3 +31,8 @@ Heard s x y r = HeardBy s s.held x y r
 abbrev pub Copied : List ℕ → ℕ → Part → Option Clipboard → Type 0
 Copied bs c q None = ⊥
 Copied bs c q (Some k) = (k.owner ≡ Some c) × (held k.bytes ≡ part 1 bs q)
+
+-- the clipboard that an offer of c with these bytes makes, where the desk takes the offer
+abbrev pub NextClip : Bool → ℕ → List ℕ → Option Clipboard → Type 0
+NextClip taken c l None = taken ≡ false
+NextClip taken c l (Some k) = (taken ≡ true) × ((k.owner ≡ Some c) × (held k.bytes ≡ l))

@@ -11,7 +11,8 @@ use layout::sizes::Sizes;
 use layout::state::State;
 use protocol::Event;
 
-// Carries an event out that was read from a call, and says what is told.
+// Carries an event out that was read from a call, and says what is told. The sizes, the state and the pictures are lent apart, and only `make` needs
+// all three; a program and its window stay apart as events and the table have them: a struct for either would be made only to be taken apart.
 pub fn carry_out(
     z: Sizes,
     s: &mut State,

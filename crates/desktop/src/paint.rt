@@ -1,5 +1,5 @@
 // Requests that paint: fill, put and copy.
-ghost use Rattle.std.specs.Prelude.{◌≡◌, ℕ, true, ◌&&◌, List, length, Some};
+ghost use Rattle.std.specs.Prelude.{◌≡◌, ℕ, true, List, Some};
 ghost use Rattle.model.specs.Desk.{box_fits};
 ghost use Rattle.model.specs.Desk.{fill as filling};
 ghost use Rattle.model.specs.Desk.{put as putting};
@@ -7,9 +7,8 @@ ghost use Rattle.model.specs.Desk.{copy as copying};
 ghost use Rattle.protocol.specs.Meaning.{part, lies};
 ghost use Rattle.stack.specs.View.{view};
 ghost use Rattle.layout.specs.Sizes.{sizes_of};
-ghost use Rattle.layout.specs.State.{Good};
-ghost use Rattle.desktop.specs.Does.{CarriedOut};
-ghost use Rattle.desktop.specs.Painting.{area_at};
+ghost use Rattle.desktop.specs.Does.{Does};
+ghost use Rattle.desktop.specs.Painting.{area_at, span_at, Target};
 
 use crate::told::{Told, answer};
 use layout::sizes::Sizes;
@@ -19,21 +18,23 @@ use protocol::{Part, Patch};
 use stack::state::Window;
 
 // Whether a box lies in a window: its corner is a dot of the window, and its sides don't pass the window's.
+#[tactic(auto, unfolding(model::specs::Desk::box_fits))]
 pub fn has_box(w: Window, patch: Patch) -> bool
     ensures { (p : List ℕ) → result ≡ box_fits (view p (Some w)) patch.x patch.y patch.wide patch.high }
 {
     let Patch { x, y, wide, high } = patch;
     x < w.wide
         && y < w.high
-        && x as u32 + wide as u32 <= w.wide as u32
-        && y as u32 + high as u32 <= w.high as u32
+        && u32::from(x) + u32::from(wide) <= u32::from(w.wide)
+        && u32::from(y) + u32::from(high) <= u32::from(w.high)
 }
 
-// Whether a box lies in a window, and the one of its size at to_x, to_y too.
-fn has_both(w: Window, patch: Patch, to_x: u16, to_y: u16) -> bool
-    ensures { (p : List ℕ) → result ≡ (box_fits (view p (Some w)) patch.x patch.y patch.wide patch.high && box_fits (view p (Some w)) to_x to_y patch.wide patch.high) }
+// The window that a program may paint in: its own, if the box lies in it.
+fn target(s: &State, program: u8, window: u8, patch: Patch) -> Option<Window>
+    ensures { Target s.now.stack program window patch result }
 {
-    has_box(w, patch) && has_box(w, patch.moved_to(to_x, to_y))
+    let w = s.stack.owned(program, window)?;
+    has_box(w, patch).then_some(w)
 }
 
 // A box of a window's own dots as an area of its picture.
@@ -41,12 +42,25 @@ fn area(patch: Patch) -> Area
     ensures { result ≡ area_at patch.x patch.y patch.wide patch.high }
 {
     Area {
-        x: patch.x as usize,
-        y: patch.y as usize,
-        wide: patch.wide as usize,
-        high: patch.high as usize,
+        x: usize::from(patch.x),
+        y: usize::from(patch.y),
+        wide: usize::from(patch.wide),
+        high: usize::from(patch.high),
     }
 }
+
+// A row of a window's own dots as a span of its picture.
+fn span(row: Patch) -> Span
+    ensures { result ≡ span_at row.x row.y row.wide }
+{
+    Span {
+        x: usize::from(row.x),
+        y: usize::from(row.y),
+        wide: usize::from(row.wide),
+    }
+}
+
+// Each of the three kinds of paint answers by itself: one function that takes the painter as a closure would need a contract over all painters.
 
 // The box has one colour.
 pub fn fill(
@@ -57,16 +71,13 @@ pub fn fill(
     patch: Patch,
     colour: u32,
 ) -> Option<Told>
-    ensures { (z : Sizes) → Good (sizes_of z) s.now (length pictures.old) → CarriedOut (sizes_of z) (filling program window patch.x patch.y patch.wide patch.high colour) s.now pictures.old s.now pictures.new result }
+    ensures { (z : Sizes) → Does (sizes_of z) (filling program window patch.x patch.y patch.wide patch.high colour) s.now pictures.old s.now pictures.new result }
 {
-    let Some(w) = s.stack.owned(program, window) else {
+    let Some(w) = target(s, program, window, patch) else {
         return answer(program, false);
     };
-    if !has_box(w, patch) {
-        return answer(program, false);
-    }
-    let _ = pixels::fill(pictures, w.picture(), area(patch), colour);
-    answer(program, true)
+    let taken = pixels::fill(pictures, w.picture(), area(patch), colour);
+    answer(program, taken)
 }
 
 // The box at to_x, to_y has what the box at x, y had before.
@@ -79,22 +90,22 @@ pub fn copy(
     to_x: u16,
     to_y: u16,
 ) -> Option<Told>
-    ensures { (z : Sizes) → Good (sizes_of z) s.now (length pictures.old) → CarriedOut (sizes_of z) (copying program window patch.x patch.y patch.wide patch.high to_x to_y) s.now pictures.old s.now pictures.new result }
+    ensures { (z : Sizes) → Does (sizes_of z) (copying program window patch.x patch.y patch.wide patch.high to_x to_y) s.now pictures.old s.now pictures.new result }
 {
-    let Some(w) = s.stack.owned(program, window) else {
+    let Some(w) = target(s, program, window, patch) else {
         return answer(program, false);
     };
-    if !has_both(w, patch, to_x, to_y) {
+    if !has_box(w, patch.moved_to(to_x, to_y)) {
         return answer(program, false);
     }
-    let _ = pixels::copy(
+    let taken = pixels::copy(
         pictures,
         w.picture(),
         area(patch),
-        to_x as usize,
-        to_y as usize,
+        usize::from(to_x),
+        usize::from(to_y),
     );
-    answer(program, true)
+    answer(program, taken)
 }
 
 // The dots from x on in row y have the colours, which are a part of the call.
@@ -108,25 +119,17 @@ pub fn put(
     y: u16,
     colours: Part,
 ) -> Option<Told>
-    ensures { (z : Sizes) → Good (sizes_of z) s.now (length pictures.old) → lies 4 call.now colours ≡ true → CarriedOut (sizes_of z) (putting program window x y (part 4 call.now colours)) s.now pictures.old s.now pictures.new result }
+    ensures { lies 4 call.now colours ≡ true → (z : Sizes) → Does (sizes_of z) (putting program window x y (part 4 call.now colours)) s.now pictures.old s.now pictures.new result }
 {
-    let Some(w) = s.stack.owned(program, window) else {
-        return answer(program, false);
-    };
     let row = Patch {
         x,
         y,
         wide: colours.count,
         high: 1,
     };
-    if !has_box(w, row) {
+    let Some(w) = target(s, program, window, row) else {
         return answer(program, false);
-    }
-    let span = Span {
-        x: x as usize,
-        y: y as usize,
-        wide: colours.count as usize,
     };
-    let _ = pixels::put(pictures, w.picture(), span, call, colours.from);
-    answer(program, true)
+    let taken = pixels::put(pictures, w.picture(), span(row), call, colours.from);
+    answer(program, taken)
 }

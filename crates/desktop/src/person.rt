@@ -8,10 +8,11 @@ ghost use Rattle.model.specs.Desk.{press as pressing};
 ghost use Rattle.model.specs.Desk.{key as typing};
 ghost use Rattle.model.specs.Desk.{paste as pasting};
 ghost use Rattle.protocol.specs.Meaning.{part, lies};
+ghost use Rattle.model.specs.System.{taken};
 ghost use Rattle.layout.specs.Sizes.{sizes_of};
-ghost use Rattle.layout.specs.State.{Good};
-ghost use Rattle.desktop.specs.Does.{CarriedOut};
-ghost use Rattle.desktop.specs.Person.{Known, Heard, Copied};
+ghost use Rattle.layout.specs.State.{desk_of, Good};
+ghost use Rattle.desktop.specs.Does.{DoesUnpainted};
+ghost use Rattle.desktop.specs.Person.{Known, Heard, Copied, NextClip};
 
 use crate::told::{Told, answer};
 use few::Few;
@@ -24,22 +25,15 @@ use stack::state::Window;
 fn known(s: &State, number: Option<u8>) -> Option<(u8, Window)>
     ensures { Known s.now number result }
 {
-    let Some(n) = number else {
-        return None;
-    };
-    match s.stack.window(n) {
-        Some(w) => Some((n, w)),
-        None => None,
-    }
+    let n = number?;
+    Some((n, s.stack.window(n)?))
 }
 
 // The window that has the keys is told.
 pub fn key(s: &State, key: u32) -> Option<Told>
-    ensures { (z : Sizes) (p : List ℕ) → Good (sizes_of z) s.now (length p) → CarriedOut (sizes_of z) (typing key) s.now p s.now p result }
+    ensures { (z : Sizes) → DoesUnpainted (sizes_of z) (typing key) s.now s.now result }
 {
-    let Some((n, w)) = known(s, s.keys) else {
-        return None;
-    };
+    let (n, w) = known(s, s.keys)?;
     Some(Told {
         program: w.owner,
         word: Word::Typed { window: n, key },
@@ -59,14 +53,10 @@ fn whole(clip: &Clipboard) -> Part
 
 // The window that has the keys is told the clipboard's bytes, if an offer was ever taken.
 pub fn paste(s: &State) -> Option<Told>
-    ensures { (z : Sizes) (p : List ℕ) → Good (sizes_of z) s.now (length p) → CarriedOut (sizes_of z) pasting s.now p s.now p result }
+    ensures { (z : Sizes) → DoesUnpainted (sizes_of z) pasting s.now s.now result }
 {
-    let Some((n, w)) = known(s, s.keys) else {
-        return None;
-    };
-    let Some(_) = s.clip.owner else {
-        return None;
-    };
+    let (n, w) = known(s, s.keys)?;
+    s.clip.owner?;
     let bytes = whole(&s.clip);
     Some(Told {
         program: w.owner,
@@ -76,15 +66,13 @@ pub fn paste(s: &State) -> Option<Told>
 
 // The button goes down: the window in front at the pointer has the keys and holds the pointer; if there is none nobody has.
 fn press_down(s: &mut State) -> Option<Told>
-    ensures { (z : Sizes) (p : List ℕ) → Good (sizes_of z) s.old (length p) → CarriedOut (sizes_of z) (pressing true) s.old p s.new p result }
+    ensures { (z : Sizes) → DoesUnpainted (sizes_of z) (pressing true) s.old s.new result }
 {
-    let Some((n, w)) = s.stack.front_window(s.x, s.y) else {
-        s.keys = None;
-        s.held = None;
-        return None;
-    };
-    s.keys = Some(n);
-    s.held = Some(n);
+    let front = s.stack.front_window(s.x, s.y);
+    let n = front.map(|(n, _)| n);
+    s.keys = n;
+    s.held = n;
+    let (n, w) = front?;
     Some(Told {
         program: w.owner,
         word: Word::Pressed {
@@ -96,11 +84,9 @@ fn press_down(s: &mut State) -> Option<Told>
 
 // The button comes up: the window that holds the pointer is told, and nobody holds it.
 fn press_up(s: &mut State) -> Option<Told>
-    ensures { (z : Sizes) (p : List ℕ) → Good (sizes_of z) s.old (length p) → CarriedOut (sizes_of z) (pressing false) s.old p s.new p result }
+    ensures { (z : Sizes) → DoesUnpainted (sizes_of z) (pressing false) s.old s.new result }
 {
-    let Some((n, w)) = known(s, s.held) else {
-        return None;
-    };
+    let (n, w) = known(s, s.held)?;
     s.held = None;
     Some(Told {
         program: w.owner,
@@ -113,7 +99,7 @@ fn press_up(s: &mut State) -> Option<Told>
 
 // The button goes down or comes up.
 pub fn press(s: &mut State, down: bool) -> Option<Told>
-    ensures { (z : Sizes) (p : List ℕ) → Good (sizes_of z) s.old (length p) → CarriedOut (sizes_of z) (pressing down) s.old p s.new p result }
+    ensures { (z : Sizes) → DoesUnpainted (sizes_of z) (pressing down) s.old s.new result }
 {
     if down { press_down(s) } else { press_up(s) }
 }
@@ -123,8 +109,8 @@ fn listener(s: &State, x: i16, y: i16) -> Option<(u8, Window)>
     ensures { Heard s.now x y result }
 {
     match s.held {
-        Some(n) => known(s, Some(n)),
         None => s.stack.front_window(x, y),
+        held => known(s, held),
     }
 }
 
@@ -132,6 +118,7 @@ fn listener(s: &State, x: i16, y: i16) -> Option<(u8, Window)>
 fn nearest_dot(a: i16, n: u32) -> i16
     ensures { n ≤ 4096 → result ≡ clamp a n }
 {
+    // No `try_from`: it would add a branch that no place takes.
     geometry::nearest(a, n.min(4096) as u16)
 }
 
@@ -139,21 +126,19 @@ fn nearest_dot(a: i16, n: u32) -> i16
 fn offset(a: i16, b: i16) -> i32
     ensures { result ≡ a -ℤ b }
 {
-    a as i32 - b as i32
+    i32::from(a) - i32::from(b)
 }
 
 // The pointer is at a place, or at the dot of the screen that is nearest to it.
 pub fn point(z: Sizes, s: &mut State, x: i16, y: i16) -> Option<Told>
-    ensures { (p : List ℕ) → Good (sizes_of z) s.old (length p) → CarriedOut (sizes_of z) (pointing x y) s.old p s.new p result }
+    ensures { DoesUnpainted (sizes_of z) (pointing x y) s.old s.new result }
 {
     let px = nearest_dot(x, z.wide);
     let py = nearest_dot(y, z.high);
     let heard = listener(s, px, py);
     s.x = px;
     s.y = py;
-    let Some((n, w)) = heard else {
-        return None;
-    };
+    let (n, w) = heard?;
     let word = Word::At {
         window: n,
         x: offset(px, w.x),
@@ -176,20 +161,22 @@ fn offered(call: &[u8], program: u8, part: Part) -> Option<Clipboard>
     })
 }
 
+// The clipboard that a program's offer makes, if a window of the program has the keys and the bytes are at most 4,096.
+fn next_clip(s: &State, call: &[u8], program: u8, bytes: Part) -> Option<Clipboard>
+    ensures { lies 1 call.now bytes ≡ true → (z : Sizes) (p : List ℕ) → Good (sizes_of z) s.now (length p) → NextClip (taken (sizes_of z) (desk_of s.now p) (offering program (part 1 call.now bytes))) program (part 1 call.now bytes) result }
+{
+    let (_, w) = known(s, s.keys)?;
+    if w.owner != program || bytes.count > 4096 {
+        return None;
+    }
+    offered(call, program, bytes)
+}
+
 // The clipboard holds the bytes, if a window of the program has the keys and they are at most 4,096.
 pub fn offer(s: &mut State, call: &[u8], program: u8, bytes: Part) -> Option<Told>
-    ensures { (z : Sizes) (p : List ℕ) → Good (sizes_of z) s.old (length p) → lies 1 call.now bytes ≡ true → CarriedOut (sizes_of z) (offering program (part 1 call.now bytes)) s.old p s.new p result }
+    ensures { lies 1 call.now bytes ≡ true → (z : Sizes) → DoesUnpainted (sizes_of z) (offering program (part 1 call.now bytes)) s.old s.new result }
 {
-    let Some((_, w)) = known(s, s.keys) else {
-        return answer(program, false);
-    };
-    if w.owner != program {
-        return answer(program, false);
-    }
-    if bytes.count > 4096 {
-        return answer(program, false);
-    }
-    let Some(clip) = offered(call, program, bytes) else {
+    let Some(clip) = next_clip(s, call, program, bytes) else {
         return answer(program, false);
     };
     s.clip = clip;

@@ -16,15 +16,6 @@ pub struct Told {
 pub fn answer(program: u8, taken: bool) -> Option<Told>
     ensures { result ≡ answered program taken }
 {
-    if taken {
-        Some(Told {
-            program,
-            word: Word::Done,
-        })
-    } else {
-        Some(Told {
-            program,
-            word: Word::No,
-        })
-    }
+    let word = if taken { Word::Done } else { Word::No };
+    Some(Told { program, word })
 }

@@ -1,8 +1,7 @@
 // Requests that make, close, move, raise and show windows.
 ghost use Rattle.std.specs.Prelude.{◌≡◌, ℕ, suc, ◌+◌, ◌*◌, ◌≤◌, ◌&&◌, List, length, None, ◌==◌, slice_index_or};
 ghost use Rattle.layout.specs.Sizes.{sizes_of};
-ghost use Rattle.layout.specs.State.{Good};
-ghost use Rattle.desktop.specs.Does.{CarriedOut};
+ghost use Rattle.desktop.specs.Does.{Does, DoesUnpainted};
 ghost use Rattle.model.specs.Basics.{pick};
 ghost use Rattle.stack.specs.View.{slots_of, numbered};
 ghost use Rattle.desktop.specs.Windows.{makeable, start_of};
@@ -21,29 +20,26 @@ use stack::state::Window;
 
 // The window lies at x, y from now on.
 pub fn move_to(s: &mut State, program: u8, window: u8, x: i16, y: i16) -> Option<Told>
-    ensures { (z : Sizes) (p : List ℕ) → Good (sizes_of z) s.old (length p) → CarriedOut (sizes_of z) (moving program window x y) s.old p s.new p result }
+    ensures { (z : Sizes) → DoesUnpainted (sizes_of z) (moving program window x y) s.old s.new result }
 {
-    let taken = s.stack.move_to(program, window, x, y);
-    answer(program, taken)
+    answer(program, s.stack.move_to(program, window, x, y))
 }
 
 // The window is shown or not from now on.
 pub fn show(s: &mut State, program: u8, window: u8, on: bool) -> Option<Told>
-    ensures { (z : Sizes) (p : List ℕ) → Good (sizes_of z) s.old (length p) → CarriedOut (sizes_of z) (showing program window on) s.old p s.new p result }
+    ensures { (z : Sizes) → DoesUnpainted (sizes_of z) (showing program window on) s.old s.new result }
 {
-    let taken = s.stack.show(program, window, on);
-    answer(program, taken)
+    answer(program, s.stack.show(program, window, on))
 }
 
 // The window is in front of all from now on.
 pub fn raise(s: &mut State, program: u8, window: u8) -> Option<Told>
-    ensures { (z : Sizes) (p : List ℕ) → Good (sizes_of z) s.old (length p) → CarriedOut (sizes_of z) (raising program window) s.old p s.new p result }
+    ensures { (z : Sizes) → DoesUnpainted (sizes_of z) (raising program window) s.old s.new result }
 {
-    let Some(_) = s.stack.owned(program, window) else {
+    if s.stack.owned(program, window).is_none() {
         return answer(program, false);
-    };
-    let _ = s.stack.raise(window);
-    answer(program, true)
+    }
+    answer(program, s.stack.raise(window))
 }
 
 // Whether there may be one more window of these sides, with the number n and `used` dots in the pictures that there are.
@@ -51,23 +47,19 @@ fn may_make(z: Sizes, program: u8, n: u8, wide: u16, high: u16, used: u64) -> bo
     requires { used ≤ 4294836225 * 255 }
     ensures { result ≡ makeable (sizes_of z) program n wide high used }
 {
-    (program as u32) < z.programs
-        && (n as u32) < z.windows
-        && 1 <= wide
-        && wide as u32 <= z.side
-        && 1 <= high
-        && high as u32 <= z.side
-        && used + wide as u64 * high as u64 <= z.dots as u64
+    let sides = 1..=z.side;
+    u32::from(program) < z.programs
+        && u32::from(n) < z.windows
+        && sides.contains(&u32::from(wide))
+        && sides.contains(&u32::from(high))
+        && used + u64::from(wide) * u64::from(high) <= u64::from(z.dots)
 }
 
 // Where the picture of the window n begins.
 fn picture_start(s: &State, n: u8) -> usize
     ensures { result ≡ start_of (slice_index_or (slots_of s.now.stack) n None) }
 {
-    match s.stack.window(n) {
-        Some(w) => w.at,
-        None => 0,
-    }
+    s.stack.window(n).map_or(0, |w| w.at)
 }
 
 // A new window with the lowest free number, in front, not shown, of colour 0.
@@ -81,7 +73,7 @@ pub fn make(
     wide: u16,
     high: u16,
 ) -> Option<Told>
-    ensures { Good (sizes_of z) s.old (length pictures.old) → CarriedOut (sizes_of z) (making program x y wide high) s.old pictures.old s.new pictures.new result }
+    ensures { Does (sizes_of z) (making program x y wide high) s.old pictures.old s.new pictures.new result }
 {
     let n = s.stack.lowest_free();
     let used = s.stack.area_used();
@@ -110,7 +102,7 @@ pub fn make(
 
 // The window is gone; keys and pointer aren't its any more.
 pub fn close(s: &mut State, pictures: &mut [u32], program: u8, window: u8) -> Option<Told>
-    ensures { (z : Sizes) → Good (sizes_of z) s.old (length pictures.old) → CarriedOut (sizes_of z) (closing program window) s.old pictures.old s.new pictures.new result }
+    ensures { (z : Sizes) → Does (sizes_of z) (closing program window) s.old pictures.old s.new pictures.new result }
 {
     let Some(w) = s.stack.owned(program, window) else {
         return answer(program, false);
@@ -129,8 +121,5 @@ pub fn close(s: &mut State, pictures: &mut [u32], program: u8, window: u8) -> Op
 fn let_go(held: Option<u8>, n: u8) -> Option<u8>
     ensures { numbered result ≡ pick (numbered held == suc n) 0 (numbered held) }
 {
-    match held {
-        Some(m) if m == n => None,
-        other => other,
-    }
+    held.filter(|m| *m != n)
 }

@@ -15,7 +15,7 @@ pub returns-in-Show : goal.returns-in-Show
 returns-in-Show c g h = rw c.in-Show.is (c.show.ensures c.args.z c.args.pictures.now g)
 
 pub returns-in-Offer : goal.returns-in-Offer
-returns-in-Offer c g h = rw c.in-Offer.is (c.offer.ensures c.args.z c.args.pictures.now g (rw c.in-Offer.is at h))
+returns-in-Offer c g h = rw c.in-Offer.is (c.offer.ensures (rw c.in-Offer.is at h) c.args.z c.args.pictures.now g)
 
 pub returns-in-Press : goal.returns-in-Press
 returns-in-Press c g h = rw c.in-Press.is (c.press.ensures c.args.z c.args.pictures.now g)

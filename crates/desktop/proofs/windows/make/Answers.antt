@@ -2,10 +2,9 @@ use Rattle.std.proofs.Common.{◌≡◌, false, ltb, [], ◌∷◌, ◌++◌, le
 use Rattle.std.proofs.lemmas.Int.{to_z-of_z}
 use Rattle.model.specs.Basics.{pick}
 use Rattle.layout.specs.Sizes.{sizes_of}
-use Rattle.model.specs.Desk.{make, sender, area}
+use Rattle.model.specs.Desk.{sender, area}
 use Rattle.model.specs.System.{taken}
 use Rattle.stack.specs.View.{packed, windows_of}
-use Rattle.desktop.specs.Does.{CarriedOut}
 use Rattle.desktop.specs.Windows.{makeable}
 use Rattle.desktop.proofs.Carrying.{refusal}
 use Rattle.desktop.proofs.Making.{made-carried}
@@ -17,10 +16,9 @@ returns-then-not-may_make c g =
     let p = c.args.pictures.now in
     let n = c.lowest_free-n.ensures.value p in
     let u = c.area_used-used.ensures.value p in
-    subst (CarriedOut (sizes_of c.args.z) (make c.args.program c.args.x c.args.y c.args.wide c.args.high) c.args.s.now p _ _) (sym c.answer.ensures)
-    (refusal c.args.z (make c.args.program c.args.x c.args.y c.args.wide c.args.high) c.args.s.now p c.args.program g
+    refusal c.args.z c.args.program c.answer.ensures g
     (subst (λ i. makeable (sizes_of c.args.z) c.args.program i c.args.wide c.args.high (area (windows_of c.args.s.now.stack p)) ≡ false) n
-    (subst (λ i. makeable (sizes_of c.args.z) c.args.program c.lowest_free-n.result c.args.wide c.args.high i ≡ false) u (sym c.if-not-may_make.ensures))) refl)
+    (subst (λ i. makeable (sizes_of c.args.z) c.args.program c.lowest_free-n.result c.args.wide c.args.high i ≡ false) u (sym c.if-not-may_make.ensures))) refl
 
 pub returns : goal.returns
 returns c g =
