@@ -14,6 +14,7 @@ use Rattle.geometry.specs.declared.Rect.{Rect}
 use Rattle.geometry.specs.Boxes.{Empty}
 use Rattle.damage.specs.Encode.{encode}
 use Rattle.damage.specs.Cells.{dot_rows, words_of, row_of, cells_of, Even, Low}
+use Rattle.damage.proofs.Left.{Left, left_by}
 use Rattle.damage.proofs.Dots.{coloured-rows, rows-length}
 
 -- one box
@@ -55,20 +56,24 @@ rect-empty r b e = let h = e r.left r.top in grind (arith, nat_tests)
 pub rect-full : (r : Rect) → Empty false r → (r.left < r.right) × (r.top < r.below)
 rect-full r e = (grind (arith, nat_tests), grind (arith, nat_tests))
 
--- the next line
-pub row_more : (s : State) (p : List ℕ) (f : ℕ → ℕ → Bool) (c d a k : ℕ) (xs : List ℕ) (b : ℕ) → k < length xs → b ≡ get_or xs k 0 →
-    words_of s p (row_of f c d a (drop k xs)) ≡ words_of s p (cell f a b c d) ++ words_of s p (row_of f c d b (drop (k + 1) xs))
+-- the next line: what is left is its cell, or its row of cells, and then what is left behind it
+pub row_more : (s : State) (p : List ℕ) (f : ℕ → ℕ → Bool) (c d a k : ℕ) (xs : List ℕ) (at₀ at : ℕ) (all old new : List ℕ) → k < length xs → Left at₀ at all (words_of s p (row_of f c d a (drop k xs))) old new →
+    Left at₀ at all (words_of s p (cell f a (get_or xs k 0) c d) ++ words_of s p (row_of f c d (get_or xs k 0) (drop (k + 1) xs))) old new
 unfolding row_of
-row_more s p f c d a k xs b h e = ap (λ t. words_of s p (row_of f c d a t)) (drop_more xs k 0 h) ∙ rw (← e) (words_append s p (cell f a b c d) (row_of f c d b (drop (k + 1) xs)))
+row_more s p f c d a k xs at₀ at all old new h l =
+    let b = get_or xs k 0 in
+    left_by at₀ at all (words_of s p (row_of f c d a (drop k xs))) _ old new (ap (λ t. words_of s p (row_of f c d a t)) (drop_more xs k 0 h) ∙ words_append s p (cell f a b c d) (row_of f c d b (drop (k + 1) xs))) l
 
 pub row-end : (s : State) (p : List ℕ) (f : ℕ → ℕ → Bool) (c d a k : ℕ) (xs : List ℕ) → length xs ≤ k → words_of s p (row_of f c d a (drop k xs)) ≡ []
 unfolding row_of
 row-end s p f c d a k xs h = ap (λ t. words_of s p (row_of f c d a t)) (drop_all k xs h) ∙ words-none s p
 
-pub cells-more : (s : State) (p : List ℕ) (f : ℕ → ℕ → Bool) (xs : List ℕ) (c k : ℕ) (ys : List ℕ) (d : ℕ) → k < length ys → d ≡ get_or ys k 0 →
-    words_of s p (cells_of f xs c (drop k ys)) ≡ words_of s p (row_of f c d 0 xs) ++ words_of s p (cells_of f xs d (drop (k + 1) ys))
+pub cells-more : (s : State) (p : List ℕ) (f : ℕ → ℕ → Bool) (xs : List ℕ) (c k : ℕ) (ys : List ℕ) (at₀ at : ℕ) (all old new : List ℕ) → k < length ys → Left at₀ at all (words_of s p (cells_of f xs c (drop k ys))) old new →
+    Left at₀ at all (words_of s p (row_of f c (get_or ys k 0) 0 xs) ++ words_of s p (cells_of f xs (get_or ys k 0) (drop (k + 1) ys))) old new
 unfolding cells_of
-cells-more s p f xs c k ys d h e = ap (λ t. words_of s p (cells_of f xs c t)) (drop_more ys k 0 h) ∙ rw (← e) (words_append s p (row_of f c d 0 xs) (cells_of f xs d (drop (k + 1) ys)))
+cells-more s p f xs c k ys at₀ at all old new h l =
+    let d = get_or ys k 0 in
+    left_by at₀ at all (words_of s p (cells_of f xs c (drop k ys))) _ old new (ap (λ t. words_of s p (cells_of f xs c t)) (drop_more ys k 0 h) ∙ words_append s p (row_of f c d 0 xs) (cells_of f xs d (drop (k + 1) ys))) l
 
 pub cells-end : (s : State) (p : List ℕ) (f : ℕ → ℕ → Bool) (xs : List ℕ) (c k : ℕ) (ys : List ℕ) → length ys ≤ k → words_of s p (cells_of f xs c (drop k ys)) ≡ []
 unfolding cells_of
@@ -95,8 +100,8 @@ cells-lines f w h xs c [] = rows-lines f w c h 0 xs ∙ sym (append-nil _)
 cells-lines f w h xs c (d ∷ ys) = ap (λ t. t ++ cells f w h xs d ys) (rows-lines f w c d 0 xs) ∙ ap (λ t. row_of f c d 0 (xs ++ w ∷ []) ++ t) (cells-lines f w h xs d ys)
 
 -- what holds up to the next line, and behind it
-pub even-more : (f : ℕ → ℕ) (a k b : ℕ) (xs : List ℕ) → k < length xs → b ≡ get_or xs k 0 → Even f a (drop k xs) → ((u : ℕ) → a ≤ u → u < b → f u ≡ f a) × Even f b (drop (k + 1) xs)
-even-more f a k b xs h e t = subst (Even f a) (drop_more xs k 0 h ∙ ap (λ n. n ∷ drop (k + 1) xs) (sym e)) t
+pub even-more : (f : ℕ → ℕ) (a k : ℕ) (xs : List ℕ) → k < length xs → Even f a (drop k xs) → ((u : ℕ) → a ≤ u → u < get_or xs k 0 → f u ≡ f a) × Even f (get_or xs k 0) (drop (k + 1) xs)
+even-more f a k xs h t = subst (Even f a) (drop_more xs k 0 h) t
 
-pub low-more : (k b : ℕ) (xs : List ℕ) → k < length xs → b ≡ get_or xs k 0 → Low (drop k xs) → (b ≤ 32768) × Low (drop (k + 1) xs)
-low-more k b xs h e t = subst Low (drop_more xs k 0 h ∙ ap (λ n. n ∷ drop (k + 1) xs) (sym e)) t
+pub low-more : (k : ℕ) (xs : List ℕ) → k < length xs → Low (drop k xs) → (get_or xs k 0 ≤ 32768) × Low (drop (k + 1) xs)
+low-more k xs h t = subst Low (drop_more xs k 0 h) t

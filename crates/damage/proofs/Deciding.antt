@@ -1,5 +1,5 @@
 -- What an event damages, by its kind.
-use Rattle.std.proofs.Common.{◌≡◌, ℕ, suc, ◌+◌, Bool, true, false, not, ◌&&◌, ◌||◌, eqb, leb, List, length, ℤ, pos, sym, refl, ap, ◌∙◌, subst, inl, inr, add-one, arith, eqb-true}
+use Rattle.std.proofs.Common.{◌≡◌, ℕ, suc, ◌+◌, Bool, true, false, not, ◌&&◌, ◌||◌, eqb, leb, List, length, ℤ, pos, Some, None, Option, sym, refl, ap, ◌∙◌, subst, inl, inr, arith, eqb-true}
 use Rattle.std.proofs.lemmas.Bool.Decides.{nat_tests}
 use Rattle.std.proofs.lemmas.Bool.{and_parts, and_left, and_right, cases_Bool}
 use Rattle.model.specs.Basics.{in_box}
@@ -16,6 +16,13 @@ use Rattle.stack.proofs.Fronts.{lies}
 use Rattle.protocol.specs.Meaning.{part}
 use Rattle.protocol.specs.declared.types.Part.{Part}
 use Rattle.protocol.proofs.Rows.{length-numbers}
+use Rattle.std.specs.Option.{option_eq, option_map}
+use Rattle.stack.specs.View.{numbered}
+use Rattle.stack.specs.Found.{Found}
+use Rattle.stack.specs.declared.state.Window as stack
+use Rattle.layout.specs.State.{desk_of}
+use Rattle.layout.specs.declared.state.State.{State}
+use Rattle.damage.specs.Cells.{Fronting}
 use Rattle.layout.specs.Sizes.{sizes_of}
 use Rattle.layout.specs.declared.sizes.Sizes.{Sizes}
 use Rattle.damage.specs.declared.types.Placed.{Placed}
@@ -181,6 +188,21 @@ pub unseen-paste : subject paste ≡ 0
 unfolding subject
 unseen-paste = refl
 
+-- a window's number is compared as an option by the code
+same-number : (a b : Option ℕ) → option_eq eqb a b ≡ eqb (numbered a) (numbered b)
+same-number None None = refl
+same-number None (Some n) = grind (arith, nat_tests)
+same-number (Some m) None = grind (arith, nat_tests)
+same-number (Some m) (Some n) = grind (arith, nat_tests)
+
+pub by-number : (a b : Option ℕ) (m n : ℕ) → numbered a ≡ m → numbered b ≡ n → option_eq eqb a b ≡ eqb m n
+by-number a b m n e f = rw (← e, ← f) (same-number a b)
+
+-- the window in front, without its number
+pub fronting : (s : State) (i j : ℕ) (o : Option (ℕ × stack.Window)) → Found s.stack (pos i) (pos j) o → Fronting s i j (option_map (λ f. f.1) o)
+fronting s i j None f = λ p. f (desk_of s p) p refl
+fronting s i j (Some t) f = (t.0, f.slot, λ p. f.front (desk_of s p) p refl)
+
 -- one dot
 module _ (how : How) (n : ℕ) (a : Placed) (d d' : Desk) (i j : ℕ) where
   pub at-turned : (r : Bool) → how ≡ Turned → r ≡ turned d d' i j → r ≡ hurts_by how n a d d' i j
@@ -191,13 +213,13 @@ module _ (how : How) (n : ℕ) (a : Placed) (d d' : Desk) (i j : ℕ) where
   unfolding hurts_by
   at_moved r h t e = rw (h, ← e, t)
 
-  pub at-moved-to : (t : Bool) (f : ℕ) → how ≡ Moved → t ≡ false → t ≡ turned d d' i j → f ≡ front_at d' i j → eqb f (n + 1) ≡ hurts_by how n a d d' i j
+  pub at-moved-to : (t r : Bool) (o : Option ℕ) → how ≡ Moved → t ≡ false → t ≡ turned d d' i j → r ≡ option_eq eqb o (Some n) → numbered o ≡ front_at d' i j → r ≡ hurts_by how n a d d' i j
   unfolding hurts_by
-  at-moved-to t f h b e g = rw (h, ← e, b, g, add-one)
+  at-moved-to t r o h b e f g = rw (h, ← e, b) (f ∙ by-number o (Some n) _ (suc n) g refl)
 
-  pub at-painted : (r : Bool) (f : ℕ) → how ≡ Painted → r ≡ true → r ≡ in_placed a i j → f ≡ front_at d i j → eqb f (n + 1) ≡ hurts_by how n a d d' i j
+  pub at-painted : (t r : Bool) (o : Option ℕ) → how ≡ Painted → t ≡ true → t ≡ in_placed a i j → r ≡ option_eq eqb o (Some n) → numbered o ≡ front_at d i j → r ≡ hurts_by how n a d d' i j
   unfolding hurts_by
-  at-painted r f h b e g = rw (h, ← e, b, g, add-one) (sym (and-true _))
+  at-painted t r o h b e f g = rw (h, ← e, b) (f ∙ by-number o (Some n) _ (suc n) g refl ∙ sym (and-true _))
     where
       and-true : (q : Bool) → (q && true) ≡ q
       and-true true = refl

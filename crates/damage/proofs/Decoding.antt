@@ -8,7 +8,7 @@ use Rattle.model.specs.System.{Formed}
 use Rattle.model.proofs.Picks.{by-pick}
 use Rattle.damage.specs.Encode.{encode}
 use Rattle.damage.specs.Screen.{head_of, box_of, lies_on, stands_on, before, up_to, boxes_in, OnScreen}
-use Rattle.damage.specs.declared.apply.Head.{Head}
+use Rattle.damage.specs.declared.head.Head.{Head}
 
 -- how many boxes may be read does not matter, if there are as many as words
 up-to-same : (n m wide high : ℕ) (ws : List ℕ) → length ws ≤ n → length ws ≤ m → up_to n wide high ws ≡ up_to m wide high ws

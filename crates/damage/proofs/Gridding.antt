@@ -47,36 +47,36 @@ even-from f w (b ∷ es) a l r t h = (
   even-from f w es b t.0 r.1 t.1 (λ u v p q m n g. let k = r.0.0 in h u v (omega arith) (omega arith) m n (le-leb b u p ∙ sym (le-leb b v q), g)),
 )
 
-pub even-sorted : (f : ℕ → ℕ) (w : ℕ) (es : List ℕ) → Upto w es → ((u v : ℕ) → u < w → v < w → Agree es u v → f u ≡ f v) → Even f 0 (sorted es ++ w ∷ [])
+even-sorted : (f : ℕ → ℕ) (w : ℕ) (es : List ℕ) → Upto w es → ((u v : ℕ) → u < w → v < w → Agree es u v → f u ≡ f v) → Even f 0 (sorted es ++ w ∷ [])
 even-sorted f w es t h = even-from f w (sorted es) 0 (omega arith) (from-zero-all (sorted es), sorted-rising es) (sorted-upto w es t) (λ u v _ _ m n g. h u v m n (sorted-agree es u v g))
 
 low-upto : (w : ℕ) (es : List ℕ) → w ≤ 32768 → Upto w es → Low (es ++ w ∷ [])
 low-upto w [] h t = (h, tt)
 low-upto w (e ∷ es) h t = let k = t.0 in (omega arith, low-upto w es h t.1)
 
-pub low-sorted : (w : ℕ) (es : List ℕ) → w ≤ 32768 → Upto w es → Low (sorted es ++ w ∷ [])
+low-sorted : (w : ℕ) (es : List ℕ) → w ≤ 32768 → Upto w es → Low (sorted es ++ w ∷ [])
 low-sorted w es h t = low-upto w (sorted es) h (sorted-upto w es t)
 
 -- the lines of the code are those of the grid
-pub x-lines : (z : desk.Sizes) (d d' : Desk) (n : ℕ) (b : Painted) (a : Placed) (w : desk.Window) → w ≡ window d' n → Placing (window d n) b.x b.y b.wide b.high a →
-    grid_edges Across z.wide w a.left a.right d.windows ≡ x_edges z d d' n b
+x-lines : (z : desk.Sizes) (d d' : Desk) (n : ℕ) (b : Painted) (a : Placed) (w : desk.Window) → w ≡ window d' n → Placing (window d n) b.x b.y b.wide b.high a →
+    grid_edges Across z.wide w a.across.from a.across.to d.windows ≡ x_edges z d d' n b
 x-lines z d d' n b a w e p =
-    ap (λ (v : desk.Window). grid_edges Across z.wide v a.left a.right d.windows) e ∙ ap (λ (l : ℤ). grid_edges Across z.wide (window d' n) l a.right d.windows) p.left ∙
+    ap (λ (v : desk.Window). grid_edges Across z.wide v a.across.from a.across.to d.windows) e ∙ ap (λ (l : ℤ). grid_edges Across z.wide (window d' n) l a.across.to d.windows) p.left ∙
     ap (λ (r : ℤ). grid_edges Across z.wide (window d' n) ((window d n).x +ℤ pos b.x) r d.windows) p.right
 
-pub y-lines : (z : desk.Sizes) (d d' : Desk) (n : ℕ) (b : Painted) (a : Placed) (w : desk.Window) → w ≡ window d' n → Placing (window d n) b.x b.y b.wide b.high a →
-    grid_edges Down z.high w a.top a.below d.windows ≡ y_edges z d d' n b
+y-lines : (z : desk.Sizes) (d d' : Desk) (n : ℕ) (b : Painted) (a : Placed) (w : desk.Window) → w ≡ window d' n → Placing (window d n) b.x b.y b.wide b.high a →
+    grid_edges Down z.high w a.down.from a.down.to d.windows ≡ y_edges z d d' n b
 y-lines z d d' n b a w e p =
-    ap (λ (v : desk.Window). grid_edges Down z.high v a.top a.below d.windows) e ∙ ap (λ (l : ℤ). grid_edges Down z.high (window d' n) l a.below d.windows) p.top ∙
+    ap (λ (v : desk.Window). grid_edges Down z.high v a.down.from a.down.to d.windows) e ∙ ap (λ (l : ℤ). grid_edges Down z.high (window d' n) l a.down.to d.windows) p.top ∙
     ap (λ (r : ℤ). grid_edges Down z.high (window d' n) ((window d n).y +ℤ pos b.y) r d.windows) p.below
 
-pub x-ended : (z : desk.Sizes) (d d' : Desk) (n : ℕ) (b : Painted) (a : Placed) (w : desk.Window) (es : List ℕ) (limit : ℕ) → es ≡ sorted (grid_edges Across z.wide w a.left a.right d.windows) → limit ≡ z.wide → w ≡ window d' n →
-    Placing (window d n) b.x b.y b.wide b.high a → sorted (x_edges z d d' n b) ++ z.wide ∷ [] ≡ es ++ limit ∷ []
-x-ended z d d' n b a w es limit e l v p = sym (ap (λ t. t ++ limit ∷ []) (e ∙ ap sorted (x-lines z d d' n b a w v p)) ∙ ap (λ t. sorted (x_edges z d d' n b) ++ t ∷ []) l)
+x-ended : (z : desk.Sizes) (d d' : Desk) (n : ℕ) (b : Painted) (a : Placed) (w : desk.Window) (xs : List ℕ) → xs ≡ sorted (grid_edges Across z.wide w a.across.from a.across.to d.windows) ++ z.wide ∷ [] → w ≡ window d' n →
+    Placing (window d n) b.x b.y b.wide b.high a → sorted (x_edges z d d' n b) ++ z.wide ∷ [] ≡ xs
+x-ended z d d' n b a w xs e v p = sym (e ∙ ap (λ t. sorted t ++ z.wide ∷ []) (x-lines z d d' n b a w v p))
 
-pub y-ended : (z : desk.Sizes) (d d' : Desk) (n : ℕ) (b : Painted) (a : Placed) (w : desk.Window) (es : List ℕ) (limit : ℕ) → es ≡ sorted (grid_edges Down z.high w a.top a.below d.windows) → limit ≡ z.high → w ≡ window d' n →
-    Placing (window d n) b.x b.y b.wide b.high a → sorted (y_edges z d d' n b) ++ z.high ∷ [] ≡ es ++ limit ∷ []
-y-ended z d d' n b a w es limit e l v p = sym (ap (λ t. t ++ limit ∷ []) (e ∙ ap sorted (y-lines z d d' n b a w v p)) ∙ ap (λ t. sorted (y_edges z d d' n b) ++ t ∷ []) l)
+y-ended : (z : desk.Sizes) (d d' : Desk) (n : ℕ) (b : Painted) (a : Placed) (w : desk.Window) (ys : List ℕ) → ys ≡ sorted (grid_edges Down z.high w a.down.from a.down.to d.windows) ++ z.high ∷ [] → w ≡ window d' n →
+    Placing (window d n) b.x b.y b.wide b.high a → sorted (y_edges z d d' n b) ++ z.high ∷ [] ≡ ys
+y-ended z d d' n b a w ys e v p = sym (e ∙ ap (λ t. sorted t ++ z.high ∷ []) (y-lines z d d' n b a w v p))
 
 -- what is in front, and so the damage, does not hang on what the pictures hold
 seen-any : (p q : List ℕ) (o : Option Window) (x y : ℤ) → in_window (view p o) x y ≡ in_window (view q o) x y
@@ -112,12 +112,12 @@ module _ (z : desk.Sizes) (before after' : State) (q p : List ℕ) (e : Event) (
   off m k = after-off z d e h.window decided.about m k ∙ ap (λ (v : Desk). window v m) (sym stepped)
 
   -- one window is in front between two lines
-  pub across-even : (j : ℕ) → Even (λ u. front_at d' u j) 0 (sorted (x_edges z d d' h.window (painted_box e)) ++ z.wide ∷ [])
+  across-even : (j : ℕ) → Even (λ u. front_at d' u j) 0 (sorted (x_edges z d d' h.window (painted_box e)) ++ z.wide ∷ [])
   across-even j =
       even-sorted (λ u. front_at d' u j) z.wide (x_edges z d d' h.window (painted_box e)) (x-upto z d d' h.window (painted_box e))
       (λ u v m n g. (front-x z d d' h.window (painted_box e) off j u v m n g).1)
 
-  pub down-even : (i : ℕ) → Even (λ v. front_at d' i v) 0 (sorted (y_edges z d d' h.window (painted_box e)) ++ z.high ∷ [])
+  down-even : (i : ℕ) → Even (λ v. front_at d' i v) 0 (sorted (y_edges z d d' h.window (painted_box e)) ++ z.high ∷ [])
   down-even i =
       even-sorted (λ v. front_at d' i v) z.high (y_edges z d d' h.window (painted_box e)) (y-upto z d d' h.window (painted_box e))
       (λ u v m n g. (front-y z d d' h.window (painted_box e) off i u v m n g).1)
@@ -126,7 +126,7 @@ module _ (z : desk.Sizes) (before after' : State) (q p : List ℕ) (e : Event) (
   same_set =
       fun_ext (λ i. fun_ext (λ j. decided.dots i j ∙ ap (λ (v : Desk). hurts h d v i j) (sym stepped) ∙ hurts-any h.how h.window h.area before p q d' i j))
 
-  pub sends-is : words_of after' q (cells_of (damaged h before after' q) (sorted (x_edges z d d' h.window (painted_box e)) ++ z.wide ∷ []) 0 (sorted (y_edges z d d' h.window (painted_box e)) ++ z.high ∷ [])) ≡ encode (sends_at z d e)
+  sends-is : words_of after' q (cells_of (damaged h before after' q) (sorted (x_edges z d d' h.window (painted_box e)) ++ z.wide ∷ []) 0 (sorted (y_edges z d d' h.window (painted_box e)) ++ z.high ∷ [])) ≡ encode (sends_at z d e)
   unfolding grid
   sends-is =
       ap (words_of after' q)
@@ -138,23 +138,46 @@ module _ (z : desk.Sizes) (before after' : State) (q p : List ℕ) (e : Event) (
       ap (λ (v : Desk). encode (map (coloured (dot v)) (grid z d e))) stepped
 
   -- by lines that are those of the grid
-  pub lined-low : (xs ys : List ℕ) → sorted (x_edges z d d' h.window (painted_box e)) ++ z.wide ∷ [] ≡ xs → sorted (y_edges z d d' h.window (painted_box e)) ++ z.high ∷ [] ≡ ys → z.wide ≤ 4096 → z.high ≤ 4096 → Low xs × Low ys
-  lined-low xs ys a b k l = (
-    subst Low a (low-sorted z.wide (x_edges z d d' h.window (painted_box e)) (omega arith) (x-upto z d d' h.window (painted_box e))),
-    subst Low b (low-sorted z.high (y_edges z d d' h.window (painted_box e)) (omega arith) (y-upto z d d' h.window (painted_box e))),
-  )
+  x-low : (xs : List ℕ) → sorted (x_edges z d d' h.window (painted_box e)) ++ z.wide ∷ [] ≡ xs → z.wide ≤ 4096 → Low xs
+  x-low xs a k = subst Low a (low-sorted z.wide (x_edges z d d' h.window (painted_box e)) (omega arith) (x-upto z d d' h.window (painted_box e)))
 
-  pub lined-across : (xs : List ℕ) → sorted (x_edges z d d' h.window (painted_box e)) ++ z.wide ∷ [] ≡ xs → (j : ℕ) → Even (λ u. front_at d' u j) 0 xs
+  y-low : (ys : List ℕ) → sorted (y_edges z d d' h.window (painted_box e)) ++ z.high ∷ [] ≡ ys → z.high ≤ 4096 → Low ys
+  y-low ys a k = subst Low a (low-sorted z.high (y_edges z d d' h.window (painted_box e)) (omega arith) (y-upto z d d' h.window (painted_box e)))
+
+  lined-across : (xs : List ℕ) → sorted (x_edges z d d' h.window (painted_box e)) ++ z.wide ∷ [] ≡ xs → (j : ℕ) → Even (λ u. front_at d' u j) 0 xs
   lined-across xs a j = subst (Even (λ u. front_at d' u j) 0) a (across-even j)
 
-  pub lined-down : (ys : List ℕ) → sorted (y_edges z d d' h.window (painted_box e)) ++ z.high ∷ [] ≡ ys → (i : ℕ) → Even (λ v. front_at d' i v) 0 ys
+  lined-down : (ys : List ℕ) → sorted (y_edges z d d' h.window (painted_box e)) ++ z.high ∷ [] ≡ ys → (i : ℕ) → Even (λ v. front_at d' i v) 0 ys
   lined-down ys b i = subst (Even (λ v. front_at d' i v) 0) b (down-even i)
 
-  pub lined-sends : (xs ys : List ℕ) → sorted (x_edges z d d' h.window (painted_box e)) ++ z.wide ∷ [] ≡ xs → sorted (y_edges z d d' h.window (painted_box e)) ++ z.high ∷ [] ≡ ys →
+  lined-sends : (xs ys : List ℕ) → sorted (x_edges z d d' h.window (painted_box e)) ++ z.wide ∷ [] ≡ xs → sorted (y_edges z d d' h.window (painted_box e)) ++ z.high ∷ [] ≡ ys →
       words_of after' q (cells_of (damaged h before after' q) xs 0 ys) ≡ encode (sends_at z d e)
   lined-sends xs ys a b =
       ap (λ (t : List ℕ). words_of after' q (cells_of (damaged h before after' q) t 0 ys)) (sym a) ∙
       ap (λ (t : List ℕ). words_of after' q (cells_of (damaged h before after' q) (sorted (x_edges z d d' h.window (painted_box e)) ++ z.wide ∷ []) 0 t)) (sym b) ∙ sends-is
+
+-- all of it, of the lines as the code has them
+pub record Gridded (z : desk.Sizes) (s s' : State) (q p : List ℕ) (e : Event) (h : Hurt) (xs ys : List ℕ) : Type 0 where
+  pub x_low : Low xs
+  pub y_low : Low ys
+  pub across : (j : ℕ) → Even (λ u. front_at (desk_of s' q) u j) 0 xs
+  pub down : (i : ℕ) → Even (λ v. front_at (desk_of s' q) i v) 0 ys
+  pub sends : words_of s' q (cells_of (damaged h s s' q) xs 0 ys) ≡ encode (sends_at z (desk_of s p) e)
+
+pub gridded : (z : desk.Sizes) (s s' : State) (q p : List ℕ) (e : Event) (h : Hurt) (w : desk.Window) (xs ys : List ℕ) → z.wide ≤ 4096 → z.high ≤ 4096 →
+    Decided z (desk_of s p) e h → desk_of s' q ≡ (after z (desk_of s p) e).0 → w ≡ window (desk_of s' q) h.window →
+    xs ≡ sorted (grid_edges Across z.wide w h.area.across.from h.area.across.to (desk_of s p).windows) ++ z.wide ∷ [] →
+    ys ≡ sorted (grid_edges Down z.high w h.area.down.from h.area.down.to (desk_of s p).windows) ++ z.high ∷ [] → Gridded z s s' q p e h xs ys
+gridded z s s' q p e h w xs ys l m dec step v a b =
+    let x = x-ended z (desk_of s p) (desk_of s' q) h.window (painted_box e) h.area w xs a v dec.area in
+    let y = y-ended z (desk_of s p) (desk_of s' q) h.window (painted_box e) h.area w ys b v dec.area in
+    record {
+      x_low = x-low z s s' q p e h dec step xs x l;
+      y_low = y-low z s s' q p e h dec step ys y m;
+      across = lined-across z s s' q p e h dec step xs x;
+      down = lined-down z s s' q p e h dec step ys y;
+      sends = lined-sends z s s' q p e h dec step xs ys x y;
+    }
 
 -- nothing is damaged, so nothing is sent
 pub sends_none : (z : desk.Sizes) (d : Desk) (e : Event) → ((i j : ℕ) → damage z d e i j ≡ false) → [] ≡ encode (sends_at z d e)

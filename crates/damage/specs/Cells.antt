@@ -1,6 +1,9 @@
 -- The cells of the grid as they are written, and their dots.
 use Rattle.std.specs.Prelude.{◌≡◌, ℕ, zero, suc, ◌+◌, ◌*◌, ◌<◌, ◌≤◌, Bool, true, List, [], ◌∷◌, ◌++◌, map, pos, ◌+ℤ◌, ◌-ℤ◌, Some, None, Option, int_le, slice_index_or}
 use Rattle.std.specs.Int.Signed.{mag}
+use Rattle.std.specs.Coded.{×_prop, Π_prop, →_prop, le_prop}
+use Rattle.std.proofs.Math.Bool.{Bool-set}
+use Rattle.std.proofs.Math.Nat.{ℕ_set}
 use Rattle.geometry.specs.declared.Rect.{Rect}
 use Rattle.model.specs.Desk.{dot}
 use Rattle.model.specs.System as system
@@ -81,3 +84,19 @@ Fronting s i j (Some w) = (n : ℕ) × (slice_index_or (slots_of s.stack) n None
 -- the pictures of all windows lie in so many dots
 abbrev pub Lent : State → ℕ → Type 0
 Lent s size = (n : ℕ) (w : Window) → slice_index_or (slots_of s.stack) n None ≡ Some w → w.at + w.wide * w.high ≤ size
+
+-- each of these facts holds in one way, so a type can carry it
+pub OverIf-prop : (size : ℕ) (o : Option Window) (r : Rect) → IsProp (OverIf size o r)
+OverIf-prop size None r = hlevel
+OverIf-prop size (Some w) r = hlevel (Bool-set, le_prop)
+
+pub Low-prop : (xs : List ℕ) → IsProp (Low xs)
+Low-prop [] = hlevel
+Low-prop (b ∷ bs) = ×_prop le_prop (Low-prop bs)
+
+even-prop : (f : ℕ → ℕ) (a : ℕ) (xs : List ℕ) → IsProp (Even f a xs)
+even-prop f a [] = hlevel
+even-prop f a (b ∷ bs) = ×_prop (Π_prop (λ u. →_prop (→_prop (ℕ_set (f u) (f a))))) (even-prop f b bs)
+
+pub Even-prop : (f : ℕ → ℕ → ℕ) (xs : List ℕ) → IsProp ((k : ℕ) → Even (f k) 0 xs)
+Even-prop f xs = Π_prop (λ k. even-prop (f k) 0 xs)

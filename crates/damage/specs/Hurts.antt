@@ -4,20 +4,25 @@ use Rattle.model.specs.Desk.{Desk, Sizes, Window, Event, after, window}
 use Rattle.model.specs.Promise.{subject}
 use Rattle.model.specs.System.{front_at, turned, damage}
 use Rattle.model.specs.Grid.{painted_box}
+use Rattle.damage.specs.declared.types.Side.{Side}
 use Rattle.damage.specs.declared.types.Placed.{Placed}
 use Rattle.damage.specs.declared.types.How.{How}
 use Rattle.damage.specs.declared.types.How.TheVariants.{Turned, Moved, Painted}
 use Rattle.damage.specs.declared.types.Hurt.{Hurt}
 
+-- a place of the screen lies in a side
+abbrev pub in_side : Side → ℕ → Bool
+in_side s i = int_le s.from (pos i) && int_lt (pos i) s.to
+
 abbrev pub in_placed : Placed → ℕ → ℕ → Bool
-in_placed a i j = (int_le a.left (pos i) && int_lt (pos i) a.right) && (int_le a.top (pos j) && int_lt (pos j) a.below)
+in_placed a i j = in_side a.across i && in_side a.down j
 
 -- the box of w by h dots at x, y of a window, where it lies on the desk
 pub record Placing (v : Window) (x y w h : ℕ) (a : Placed) : Type 0 where
-  pub left : a.left ≡ v.x +ℤ pos x
-  pub top : a.top ≡ v.y +ℤ pos y
-  pub right : a.right ≡ v.x +ℤ pos (x + w)
-  pub below : a.below ≡ v.y +ℤ pos (y + h)
+  pub left : a.across.from ≡ v.x +ℤ pos x
+  pub top : a.down.from ≡ v.y +ℤ pos y
+  pub right : a.across.to ≡ v.x +ℤ pos (x + w)
+  pub below : a.down.to ≡ v.y +ℤ pos (y + h)
 
 -- the dot is damaged, given the desk before and after the event
 unfoldable pub hurts_by : How → ℕ → Placed → Desk → Desk → ℕ → ℕ → Bool

@@ -1,10 +1,11 @@
 -- The screen's side: words read as boxes, and what boxes make of a screen.
-use Rattle.std.specs.Prelude.{◌≡◌, ℕ, zero, suc, ◌+◌, ◌*◌, ◌/◌, ◌%◌, ◌<◌, ◌≤◌, Bool, true, ◌&&◌, ◌⊎◌, List, [], ◌∷◌, ◌++◌, length, take, drop, Some, None, Option, nat_le, slice_index}
+use Rattle.std.specs.Prelude.{◌≡◌, ℕ, zero, suc, ◌+◌, ◌*◌, ◌/◌, ◌%◌, ◌<◌, ◌≤◌, Bool, ◌&&◌, ◌⊎◌, List, [], ◌∷◌, ◌++◌, length, take, drop, Some, None, Option, nat_le, slice_index}
 use Rattle.model.specs.Basics.{pick}
 use Rattle.model.specs.Promise.{Box, with_boxes}
 use Rattle.model.specs.System.{Formed}
 use Rattle.damage.specs.Encode.{encode}
-use Rattle.damage.specs.declared.apply.Head.{Head}
+use Rattle.damage.specs.declared.head.Head.{Head}
+use Rattle.damage.specs.declared.head.Size.{Size}
 
 -- the dot i, j of a screen by rows
 abbrev pub screen_at : ℕ → List ℕ → ℕ → ℕ → ℕ
@@ -60,11 +61,12 @@ pub record Shown (wide high : ℕ) (bs : List Box) (old new : List ℕ) : Type 0
   pub behind : (k : ℕ) → wide * high ≤ k → slice_index new k ≡ slice_index old k
   pub len : length new ≡ length old
 
--- a box on the screen, with this head, stands in the words from `at` on
-pub record Stands (wide high : ℕ) (ws : List ℕ) (at : ℕ) (h : Head) : Type 0 where
-  pub is : h ≡ head_of (slice_index ws at) (slice_index ws (at + 1))
-  pub on : lies_on wide high h ≡ true
-  pub ends : at + (2 + h.wide * h.high) ≤ length ws
+-- the words begin with a box that has this head and these dots, and what follows it is the rest
+pub record First (z : Size) (ws : List ℕ) (y : Size) (h : Head) (dots rest : List ℕ) : Type 0 where
+  pub screen : y ≡ z
+  pub read : boxes_in z.wide z.high ws ≡ before (box_of h dots) (boxes_in z.wide z.high rest)
+  pub size : length dots ≡ h.wide * h.high
+  pub ends : length ws ≡ 2 + (length dots + length rest)
 
 -- so many boxes with so many dots stand in the words
 pub record Counted (wide high : ℕ) (ws : List ℕ) (boxes dots : ℕ) : Type 0 where

@@ -1,8 +1,10 @@
 // The screen's side: a screen by rows in a lent slice, which changes only by boxes.
-ghost use Rattle.std.specs.Prelude.{◌≡◌, ◌+◌, ◌-◌, ◌*◌, ◌<◌, ◌≤◌, true, List, [], ◌∷◌, length, drop, is_some, Some, None, slice_index};
+ghost use Rattle.std.specs.Prelude.{◌≡◌, ◌+◌, ◌-◌, ◌*◌, ◌<◌, ◌≤◌, true, List, [], ◌∷◌, length, is_some, Some, None, slice_index};
 ghost use Rattle.model.specs.Promise.{Box};
 ghost use Rattle.pixels.specs.Runs.{Changed};
-ghost use Rattle.damage.specs.Screen.{head_of, lies_on, boxes_in, box_of, Stands, Counted, Shown, Put, Refused, ReadIsWritten, WrittenIsRead, RowsJoin, PutsJoin};
+ghost use Rattle.damage.specs.Screen.{lies_on, boxes_in, box_of, First, Counted, Shown, Put, Refused, ReadIsWritten, WrittenIsRead, RowsJoin, PutsJoin};
+
+use crate::head::{Head, Size};
 
 // How many boxes were put onto a screen, and how many dots they have together.
 #[derive(Clone, Copy)]
@@ -11,129 +13,84 @@ pub struct Applied {
     pub dots: usize,
 }
 
-// What stands before a box's dots: its place on the screen, and how many dots it has across and down.
+// A box that lies on a screen of this size, with its dots by rows from above.
 #[derive(Clone, Copy)]
-struct Head {
-    x: u16,
-    y: u16,
-    wide: u16,
-    high: u16,
+struct Boxed<'a> {
+    screen: Size,
+    head: Head,
+    dots: &'a [u32],
+    ghost lies: { lies_on screen.wide screen.high head ≡ true },
+    ghost whole: { length dots.now ≡ head.wide * head.high },
 }
 
-impl Head {
-    // How many dots the box has.
-    fn dots(self) -> usize
-        ensures { result ≡ self.wide * self.high }
+impl Boxed<'_> {
+    // Row r is put onto the screen.
+    fn put_row(&self, screen: &mut [u32], r: usize)
+        requires room { self.now.screen.wide * self.now.screen.high ≤ length screen.old }
+        requires row { r < self.now.head.high }
+        ensures { let h = self.now.head in let to = (h.y + r) * self.now.screen.wide + h.x in Changed to h.wide (λ k. slice_index self.now.dots.now (r * h.wide + (k - to))) screen.old screen.new }
     {
-        self.wide as usize * self.high as usize
+        let count = self.head.wide as usize;
+        let to = (self.head.y as usize + r) * self.screen.wide as usize + self.head.x as usize;
+        let from = r * count;
+        screen[to..to + count].copy_from_slice(&self.dots[from..from + count]);
     }
 
-    // Whether the box has dots and lies on a screen of this size.
-    fn lies_on(self, wide: u16, high: u16) -> bool
-        ensures { result ≡ lies_on wide high self }
+    // All of it is.
+    fn put(&self, screen: &mut [u32])
+        requires room { self.now.screen.wide * self.now.screen.high ≤ length screen.old }
+        ensures { Shown self.now.screen.wide self.now.screen.high (box_of self.now.head self.now.dots.now ∷ []) screen.old screen.new }
     {
-        self.wide >= 1
-            && self.high >= 1
-            && self.x as usize + self.wide as usize <= wide as usize
-            && self.y as usize + self.high as usize <= high as usize
+        for r in 0..self.head.high as usize {
+            self.put_row(screen, r);
+        }
     }
 }
 
-// The head in the two words from `at` on.
-fn head_at(sent: &[u32], at: usize) -> Head
-    requires { at + 2 ≤ length sent.now }
-    ensures { result ≡ head_of (slice_index sent.now at) (slice_index sent.now (at + 1)) }
-{
-    let place = sent[at];
-    let size = sent[at + 1];
-    Head {
-        x: (place % 65536) as u16,
-        y: (place / 65536) as u16,
-        wide: (size % 65536) as u16,
-        high: (size / 65536) as u16,
-    }
-}
-
-// The head of the box that stands in the words from `at` on, or None where none stands there that lies on the screen.
-fn next_box(wide: u16, high: u16, sent: &[u32], at: usize) -> Option<Head>
-    requires { at < length sent.now }
-    ensures { elim result [ None ↦ boxes_in wide high (drop at sent.now) ≡ None | Some h ↦ Stands wide high sent.now at h ] }
-{
-    if sent.len() - at < 2 {
-        return None;
-    }
-    let head = head_at(sent, at);
-    let dots = head.dots();
-    if !head.lies_on(wide, high) || sent.len() - at - 2 < dots {
-        return None;
-    }
-    Some(head)
-}
-
-// Counts the boxes in the words and their dots, or says that the words are no row of boxes on the screen.
-fn count(wide: u16, high: u16, sent: &[u32]) -> Option<Applied>
-    ensures { elim result [ None ↦ boxes_in wide high sent.now ≡ None | Some a ↦ Counted wide high sent.now a.boxes a.dots ] }
-{
-    let mut at: usize = 0;
-    let mut boxes: usize = 0;
-    let mut dots: usize = 0;
-    'boxes: while at < sent.len() {
-        let Some(head) = next_box(wide, high, sent, at) else {
+impl Size {
+    // The first box in the words and the words behind it, or None where they begin with no box on the screen.
+    fn first_box(self, words: &[u32]) -> Option<(Boxed, &[u32])>
+        ensures { elim result [ None ↦ 0 < length words.now → boxes_in self.wide self.high words.now ≡ None | Some f ↦ First self words.now f.0.screen f.0.head f.0.dots.now f.1.now ] }
+    {
+        let [place, size, rest @ ..] = words else {
             return None;
         };
-        let size = head.dots();
-        boxes += 1;
-        dots += size;
-        at += 2 + size;
+        let head = Head::from_words(*place, *size);
+        if !head.lies_on(self) {
+            return None;
+        }
+        let (dots, behind) = rest.split_at_checked(head.dots())?;
+        let screen = self;
+        Some((Boxed { screen, head, dots }, behind))
     }
-    Some(Applied { boxes, dots })
-}
 
-// Row r of a box whose dots stand in the words from `from` on is put onto the screen.
-fn put_row(
-    screen: &mut [u32],
-    wide: u16,
-    high: u16,
-    head: Head,
-    r: usize,
-    sent: &[u32],
-    from: usize,
-)
-    requires room { wide * high ≤ length screen.old }
-    requires on { lies_on wide high head ≡ true }
-    requires dots { from + head.wide * head.high ≤ length sent.now }
-    requires row { r < head.high }
-    ensures { Changed ((head.y + r) * wide + head.x) head.wide (λ k. slice_index sent.now (from + r * head.wide + (k - ((head.y + r) * wide + head.x)))) screen.old screen.new }
-{
-    let count = head.wide as usize;
-    let to = (head.y as usize + r) * wide as usize + head.x as usize;
-    let start = from + r * count;
-    screen[to..to + count].copy_from_slice(&sent[start..start + count]);
-}
-
-// A box whose dots stand in the words from `from` on is put onto the screen.
-fn put_box(screen: &mut [u32], wide: u16, high: u16, head: Head, sent: &[u32], from: usize)
-    requires room { wide * high ≤ length screen.old }
-    requires on { lies_on wide high head ≡ true }
-    requires dots { from + head.wide * head.high ≤ length sent.now }
-    ensures { Shown wide high (box_of head (drop from sent.now) ∷ []) screen.old screen.new }
-{
-    for r in 0..head.high as usize {
-        put_row(screen, wide, high, head, r, sent, from);
+    // Counts the boxes in the words and their dots, or says that the words are no row of boxes on the screen.
+    fn count(self, sent: &[u32]) -> Option<Applied>
+        ensures { elim result [ None ↦ boxes_in self.wide self.high sent.now ≡ None | Some a ↦ Counted self.wide self.high sent.now a.boxes a.dots ] }
+    {
+        let mut rest = sent;
+        let mut boxes: usize = 0;
+        let mut dots: usize = 0;
+        'boxes: while !rest.is_empty() {
+            let (first, behind) = self.first_box(rest)?;
+            boxes += 1;
+            dots += first.dots.len();
+            rest = behind;
+        }
+        Some(Applied { boxes, dots })
     }
-}
 
-// The boxes in the words, which are known to be a row of boxes, are put onto the screen.
-fn put_boxes(screen: &mut [u32], wide: u16, high: u16, sent: &[u32])
-    requires room { wide * high ≤ length screen.old }
-    requires read { is_some (boxes_in wide high sent.now) ≡ true }
-    ensures { (bs : List Box) → boxes_in wide high sent.now ≡ Some bs → Shown wide high bs screen.old screen.new }
-{
-    let mut at: usize = 0;
-    while at < sent.len() {
-        let head = head_at(sent, at);
-        put_box(screen, wide, high, head, sent, at + 2);
-        at += 2 + head.dots();
+    // The boxes in the words, which are known to be a row of boxes, are put onto the screen.
+    fn put_boxes(self, screen: &mut [u32], sent: &[u32])
+        requires room { self.wide * self.high ≤ length screen.old }
+        requires read { is_some (boxes_in self.wide self.high sent.now) ≡ true }
+        ensures { (bs : List Box) → boxes_in self.wide self.high sent.now ≡ Some bs → Shown self.wide self.high bs screen.old screen.new }
+    {
+        let mut rest = sent;
+        'boxes: while let Some((first, behind)) = self.first_box(rest) {
+            first.put(screen);
+            rest = behind;
+        }
     }
 }
 
@@ -142,23 +99,22 @@ fn put_boxes(screen: &mut [u32], wide: u16, high: u16, sent: &[u32])
 pub fn apply(screen: &mut [u32], wide: u16, high: u16, sent: &[u32]) -> Option<Applied>
     ensures { elim result [ None ↦ Refused wide high sent.now screen.old screen.new | Some a ↦ Put wide high sent.now screen.old screen.new a.boxes a.dots ] }
 {
+    let size = Size { wide, high };
     if screen.len() < wide as usize * high as usize {
         return None;
     }
-    let applied = count(wide, high, sent)?;
-    put_boxes(screen, wide, high, sent);
+    let applied = size.count(sent)?;
+    size.put_boxes(screen, sent);
     Some(applied)
 }
 
 // What is read is what was written, what is written is read, and rows of words can be put one after the other.
-pub fn screen_stands() -> u8
+pub fn screen_stands()
     ensures read { ReadIsWritten }
     ensures written { WrittenIsRead }
     ensures rows { RowsJoin }
     ensures puts { PutsJoin }
-{
-    0
-}
+{}
 
 #[cfg(test)]
 mod tests {

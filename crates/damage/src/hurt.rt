@@ -4,79 +4,89 @@ ghost use Rattle.model.specs.Desk.{window as window_of};
 ghost use Rattle.model.specs.System.{front_at, turned, same_place};
 ghost use Rattle.model.specs.System.{taken as taken_of};
 ghost use Rattle.protocol.specs.Meaning.{meaning};
-ghost use Rattle.stack.specs.View.{view};
+ghost use Rattle.stack.specs.View.{view, numbered};
 ghost use Rattle.layout.specs.Sizes.{sizes_of};
 ghost use Rattle.layout.specs.State.{desk_of};
-ghost use Rattle.damage.specs.Hurts.{in_placed, Placing, hurts, Decides};
+ghost use Rattle.damage.specs.Cells.{Fronting};
+ghost use Rattle.damage.specs.Hurts.{in_side, in_placed, Placing, hurts, Decides};
 
-use crate::types::{How, Hurt, Placed};
+use crate::types::{Dot, How, Hurt, Placed, Side};
 use layout::sizes::Sizes;
 use layout::state::State;
 use protocol::{Event, Patch};
 use stack::state::Window;
 
-// The window in front at a dot of the screen: its number + 1, or 0.
-fn front(s: &State, i: u16, j: u16) -> u16
-    requires { (i < 32768) × (j < 32768) }
-    ensures { (p : List ℕ) → result ≡ front_at (desk_of s.now p) i j }
-{
-    match s.stack.front_at(i as i16, j as i16) {
-        Some(n) => n as u16 + 1,
-        None => 0,
+impl Dot {
+    // The number of the window in front, where there is one.
+    fn front(self, s: &State) -> Option<u8>
+        ensures { (p : List ℕ) → numbered result ≡ front_at (desk_of s.now p) self.i self.j }
+    {
+        s.stack.front_at(self.i as i16, self.j as i16)
+    }
+
+    // That window.
+    pub(crate) fn front_window(self, s: &State) -> Option<Window>
+        ensures { Fronting s.now self.i self.j result }
+    {
+        s.stack
+            .front_window(self.i as i16, self.j as i16)
+            .map(|(_, w)| w)
+    }
+
+    // Whether another window is in front than before.
+    fn turned(self, before: &State, after: &State) -> bool
+        ensures { (p q : List ℕ) → result ≡ turned (desk_of before.now p) (desk_of after.now q) self.i self.j }
+    {
+        self.front(before) != self.front(after)
     }
 }
 
-// Whether another window is in front than before.
-fn turned(before: &State, after: &State, i: u16, j: u16) -> bool
-    requires { (i < 32768) × (j < 32768) }
-    ensures { (p q : List ℕ) → result ≡ turned (desk_of before.now p) (desk_of after.now q) i j }
-{
-    front(before, i, j) != front(after, i, j)
+impl Side {
+    // `len` places on from the place `from` + `skip`.
+    pub(crate) fn of(from: i16, skip: u16, len: u16) -> Side
+        ensures from { result.from ≡ from +ℤ pos skip }
+        ensures to { result.to ≡ from +ℤ pos (skip + len) }
+    {
+        let first = from as i32 + skip as i32;
+        Side {
+            from: first,
+            to: first + len as i32,
+        }
+    }
+
+    // Whether a place of the screen lies in it.
+    fn contains(self, i: u16) -> bool
+        ensures { result ≡ in_side self i }
+    {
+        self.from <= i as i32 && (i as i32) < self.to
+    }
 }
 
 impl Placed {
     // Whether a dot of the screen lies in it.
-    fn contains(self, i: u16, j: u16) -> bool
-        ensures { result ≡ in_placed self i j }
+    fn contains(self, dot: Dot) -> bool
+        ensures { result ≡ in_placed self dot.i dot.j }
     {
-        self.left <= i as i32
-            && (i as i32) < self.right
-            && self.top <= j as i32
-            && (j as i32) < self.below
+        self.across.contains(dot.i) && self.down.contains(dot.j)
     }
 }
 
 // Where a window lies; none lies at 0, 0.
 fn corner(slot: Option<Window>) -> (i16, i16)
-    ensures { (p : List ℕ) → (result.0 ≡ (view p slot).x) × (result.1 ≡ (view p slot).y) }
+    ensures across { (p : List ℕ) → result.0 ≡ (view p slot).x }
+    ensures down { (p : List ℕ) → result.1 ≡ (view p slot).y }
 {
-    match slot {
-        Some(w) => (w.x, w.y),
-        None => (0, 0),
-    }
-}
-
-// The places of `len` dots of a side that begins at `from`, `skip` dots on: from the first answer up to the second.
-fn side(from: i16, skip: u16, len: u16) -> (i32, i32)
-    ensures first { result.0 ≡ from +ℤ pos skip }
-    ensures end { result.1 ≡ from +ℤ pos (skip + len) }
-{
-    let first = from as i32 + skip as i32;
-    (first, first + len as i32)
+    slot.map_or((0, 0), |w| (w.x, w.y))
 }
 
 // A box of a window's own dots, where it lies on the desk.
 fn placed(slot: Option<Window>, patch: Patch) -> Placed
     ensures { (p : List ℕ) → Placing (view p slot) patch.x patch.y patch.wide patch.high result }
 {
-    let (across, down) = corner(slot);
-    let (left, right) = side(across, patch.x, patch.wide);
-    let (top, below) = side(down, patch.y, patch.high);
+    let (x, y) = corner(slot);
     Placed {
-        left,
-        top,
-        right,
-        below,
+        across: Side::of(x, patch.x, patch.wide),
+        down: Side::of(y, patch.y, patch.high),
     }
 }
 
@@ -105,10 +115,7 @@ fn about(before: &State, how: How, window: u8, patch: Patch) -> Hurt
 fn lies_at(slot: Option<Window>, x: i16, y: i16) -> bool
     ensures { (p : List ℕ) → result ≡ (same_place (view p slot).x x && same_place (view p slot).y y) }
 {
-    match slot {
-        Some(w) => w.x == x && w.y == y,
-        None => x == 0 && y == 0,
-    }
+    corner(slot) == (x, y)
 }
 
 // What the event damages, where it damages anything.
@@ -162,15 +169,14 @@ pub(crate) fn decide(e: Event, taken: bool, before: &State) -> Option<Hurt>
 
 impl Hurt {
     // Whether the dot is damaged.
-    pub(crate) fn at(self, before: &State, after: &State, i: u16, j: u16) -> bool
-        requires { (i < 32768) × (j < 32768) }
-        ensures { (p q : List ℕ) → result ≡ hurts self (desk_of before.now p) (desk_of after.now q) i j }
+    pub(crate) fn at(self, before: &State, after: &State, dot: Dot) -> bool
+        ensures { (p q : List ℕ) → result ≡ hurts self (desk_of before.now p) (desk_of after.now q) dot.i dot.j }
     {
-        let number = self.window as u16 + 1;
+        let window = Some(self.window);
         match self.how {
-            How::Turned => turned(before, after, i, j),
-            How::Moved => turned(before, after, i, j) || front(after, i, j) == number,
-            How::Painted => self.area.contains(i, j) && front(before, i, j) == number,
+            How::Turned => dot.turned(before, after),
+            How::Moved => dot.turned(before, after) || dot.front(after) == window,
+            How::Painted => self.area.contains(dot) && dot.front(before) == window,
         }
     }
 }

@@ -4,6 +4,8 @@
 pub mod apply;
 mod cells;
 mod edges;
+mod head;
 mod hurt;
+mod scene;
 pub mod send;
 mod types;

@@ -8,8 +8,9 @@ ghost use Rattle.damage.specs.Encode.{encode, Sent};
 ghost use Rattle.damage.specs.Cover.{sends_at};
 ghost use Rattle.damage.specs.Step.{Step, Stepped};
 
+use crate::scene::Scene;
 use crate::types::Axis;
-use crate::{cells, edges, hurt};
+use crate::{edges, hurt};
 use layout::sizes::Sizes;
 use layout::state::State;
 use protocol::Event;
@@ -41,18 +42,18 @@ pub fn send(
     let xs = edges::lines(
         Axis::Across,
         &before.stack,
-        area.left,
-        area.right,
+        area.across,
         more,
         z.wide as u16,
     );
-    let ys = edges::lines(
-        Axis::Down,
-        &before.stack,
-        area.top,
-        area.below,
-        more,
-        z.high as u16,
-    );
-    cells::send_cells(hurt, before, after, pictures, &xs, &ys, sent, at)
+    let ys = edges::lines(Axis::Down, &before.stack, area.down, more, z.high as u16);
+    let scene = Scene {
+        hurt,
+        before,
+        after,
+        pictures,
+        xs: xs.as_slice(),
+        ys: ys.as_slice(),
+    };
+    scene.send_cells(sent, at)
 }

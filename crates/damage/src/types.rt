@@ -1,5 +1,7 @@
 // What the sending of an event works with; what it means is in specs/.
-ghost use Rattle.std.specs.Prelude.{◌≤◌};
+ghost use Rattle.std.specs.Prelude.{◌<◌};
+
+use few::Few;
 
 #[derive(Clone, Copy)]
 pub(crate) enum Axis {
@@ -7,23 +9,26 @@ pub(crate) enum Axis {
     Down,
 }
 
-// The first `count` places are edges in rising order; behind them the screen ends. 255 windows have 510 edges, a window as it is after an event and a
-// painted box have four.
+// Places of the desk on one axis: from `from` up to `to`, which is left out.
 #[derive(Clone, Copy)]
-pub(crate) struct Edges {
-    pub(crate) places: [u16; 514],
-    pub(crate) count: usize,
-    pub(crate) limit: u16,
-    ghost few: { count ≤ 514 },
+pub(crate) struct Side {
+    pub(crate) from: i32,
+    pub(crate) to: i32,
 }
 
-// A box on the desk: from the column `left` up to `right`, and from the row `top` up to `below`, both left out.
+// The edges so far, in rising order, on a screen that ends at `limit`. 255 windows have 510 edges, a window as it is after an event and a
+// painted box have four, and the end of the screen comes behind them.
+#[derive(Clone, Copy)]
+pub(crate) struct Edges {
+    pub(crate) places: Few<u16, 515>,
+    pub(crate) limit: u16,
+}
+
+// A box on the desk. It is not geometry's Rect, whose places begin at 0, since a side here is passed on alone, for its axis.
 #[derive(Clone, Copy)]
 pub(crate) struct Placed {
-    pub(crate) left: i32,
-    pub(crate) top: i32,
-    pub(crate) right: i32,
-    pub(crate) below: i32,
+    pub(crate) across: Side,
+    pub(crate) down: Side,
 }
 
 #[derive(Clone, Copy)]
@@ -42,4 +47,13 @@ pub(crate) struct Hurt {
     pub(crate) how: How,
     pub(crate) window: u8,
     pub(crate) area: Placed,
+}
+
+// A dot of the screen whose column and row are places of the desk.
+#[derive(Clone, Copy)]
+pub(crate) struct Dot {
+    pub(crate) i: u16,
+    pub(crate) j: u16,
+    ghost across: { i < 32768 },
+    ghost down: { j < 32768 },
 }

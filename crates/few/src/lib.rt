@@ -1,7 +1,7 @@
 // A short list in an array: what a Vec is where no memory may be asked for.
 #![tactic(auto)]
 
-ghost use Rattle.std.specs.Prelude.{◌≡◌, ℕ, [], ◌∷◌, ◌++◌, length, is_some, IfSome, nat_lt, nat_le};
+ghost use Rattle.std.specs.Prelude.{◌≡◌, ℕ, ◌&&◌, [], ◌∷◌, ◌++◌, length, take, drop, is_some, IfSome, nat_le, nat_lt};
 ghost use Rattle.few.specs.Held.{held, pick};
 
 mod list;
@@ -51,6 +51,20 @@ impl<T: Copy, const N: usize> Few<T, N> {
             return false;
         }
         self.items[self.len] = x;
+        self.len += 1;
+        true
+    }
+
+    // One more behind the first k, the others one place on, where there is room and so many are there; whether there is.
+    pub fn insert(&mut self, k: usize, x: T) -> bool
+        ensures answer { result ≡ (nat_lt (length (held self.old)) N && nat_le k (length (held self.old))) }
+        ensures items { held self.new ≡ pick result (take k (held self.old) ++ x ∷ drop k (held self.old)) (held self.old) }
+    {
+        if self.len == N || k > self.len {
+            return false;
+        }
+        self.items.copy_within(k..self.len, k + 1);
+        self.items[k] = x;
         self.len += 1;
         true
     }
