@@ -18,7 +18,6 @@ use Rattle.stack.specs.declared.state.Window.{Window}
 use Rattle.stack.specs.declared.state.Stack.{Stack}
 use Rattle.stack.proofs.Slots.{window-at}
 use Rattle.layout.specs.Sizes.{sizes_of}
-use Rattle.few.specs.Held.{held}
 use Rattle.layout.specs.State.{desk_of, clip_in, Good}
 use Rattle.layout.specs.declared.sizes.Sizes.{Sizes}
 use Rattle.layout.specs.declared.state.State.{State}
