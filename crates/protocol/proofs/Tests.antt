@@ -30,10 +30,6 @@ pub by-there : {A : Type 0} (bs : List ℕ) (to : ℕ) (r : Found A) (P : Found 
 by-there bs to r P f g =
     by-pick (ltb (length bs) to) (Err (length bs)) r P (λ e. g (ltb-true (length bs) to e)) (λ e. f (ltb-false (length bs) to e))
 
-pub by-then : {A B : Type 0} (x : Found A) (g : A → ℕ → Found B) (P : Found B → Type 0) → ((y : A × ℕ) → x ≡ Ok y → P (g y.0 y.1)) → ((j : ℕ) → x ≡ Err j → P (Err j)) → P (then x g)
-by-then (Ok y) g P f h = f y refl
-by-then (Err j) g P f h = h j refl
-
 -- a row's end, and what stands at a place of it
 pub ends-within : (bs xs t : List ℕ) (i : ℕ) → i ≤ length bs → drop i bs ≡ xs ++ t → i + length xs ≤ length bs
 ends-within bs xs t i h e = omega (arith, sym (length-drop i bs) ∙ ap length e ∙ length-append xs t)
