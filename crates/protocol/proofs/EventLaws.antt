@@ -9,7 +9,7 @@ use Rattle.protocol.specs.Formats.{encode, event_format, decode_kind, decode_eve
 use Rattle.protocol.specs.Laws.{Carried, Sent, Begins, ReadsBack, ReadsOnly, FaultsFirst, FaultsWhereNone, Worked}
 use Rattle.protocol.proofs.Tests.{ok-not-err, err-not-ok, by-pick, there-ok, by-there, ends-within, goes_on, stands, one_more, answer, size-read}
 use Rattle.protocol.proofs.FieldFaults.{heads}
-use Rattle.protocol.proofs.Sequences.{Values, apply, bytes, Fits, all_read, AllGot, some-all, AllBad, past, AllTell, all-tell}
+use Rattle.protocol.proofs.Sequences.{Values, apply, bytes, Fits, all_read, AllGot, some-all, AllBad, past, past_one, AllTell, all-tell}
 
 -- an event by its kind and what its fields say
 record View (p : ℕ) (e : Event) : Type 0 where
@@ -123,7 +123,7 @@ record FaultAt (built : ℕ → Bool) (p : ℕ) (bs : List ℕ) (k j : ℕ) : Ty
 -- what a reader's answer tells of a call
 abbrev Tells : (ℕ → Bool) → ℕ → List ℕ → ℕ → Found Event → Type 0
 Tells built p bs k (Ok r) = Was built p bs k r
-Tells built p bs k (Err j) = (j ≤ length bs) × (k ≤ length bs → 0 < p → ((q : ℕ) × (q < 13) × (built q ≡ true)) → FaultAt built p bs k j)
+Tells built p bs k (Err j) = k ≤ length bs → 0 < p → ((q : ℕ) × (q < 13) × (built q ≡ true)) → FaultAt built p bs k j
 
 event-tells : (built : ℕ → Bool) (p : ℕ) (bs : List ℕ) (k : ℕ) → Bytes bs → Tells built p bs k (decode_event built p bs k)
 event-tells built p bs k b =
@@ -131,8 +131,8 @@ event-tells built p bs k b =
     by-there bs (k + 1) _ (Tells built p bs k)
     (λ l. by-pick (ltb g 13 && built g) _ _ (Tells built p bs k)
     (λ t. inside l (and_parts (ltb g 13) (built g) t) (decode_kind g p bs k) (all-tell Event (event_format g).fields (event_format g).says p bs k 1 l b))
-    (λ t. (omega arith, λ h pos c. at-kind (some-event built p pos c) l t)))
-    (λ l. (omega arith, λ h pos c. at-end (some-event built p pos c) h l))
+    (λ t. (λ h pos c. at-kind (some-event built p pos c) l t)))
+    (λ l. (λ h pos c. at-end (some-event built p pos c) h l))
   where
     was : (r : Event × ℕ) → k + 1 ≤ length bs → (ltb (get_or bs k 0) 13 ≡ true) × (built (get_or bs k 0) ≡ true) →
         AllGot p (event_format (get_or bs k 0)).fields (event_format (get_or bs k 0)).says bs k 1 r → Was built p bs k r
@@ -197,11 +197,8 @@ event-tells built p bs k b =
           );
           here = λ m e s w.
               let v = view p e s.0 in
-              let z1 : suc (j - k) ≡ suc j - k = omega (arith, d.from) in
-              let z2 : suc j - (k + 1) ≡ suc (j - (k + 1)) = omega (arith, d.from) in
               let rest = take (suc (j - (k + 1))) (drop (k + 1) bs) in
-              let f : take (suc (j - k)) (drop k bs) ≡ g ∷ rest =
-              ap (λ n. take n (drop k bs)) z1 ∙ front (suc j) l (omega (arith, d.from)) ∙ ap (λ n. g ∷ take n (drop (k + 1) bs)) z2 in
+              let f = past_one bs (g ∷ []) k (k + 1) j refl (one_more bs k (k + 1) (omega arith) refl) d.from in
               let e1 : g ∷ (rest ++ w.0) ≡ v.q ∷ bytes (event_format v.q).fields v.values = sym (ap (λ t. t ++ w.0) f) ∙ w.1 ∙ v.spelt in
               let same : g ≡ v.q = heads g v.q (rest ++ w.0) (bytes (event_format v.q).fields v.values) e1 in
               let P : ℕ → Type 0 = λ q. AllBad p (event_format q).fields bs k 1 j in
@@ -212,14 +209,11 @@ event-tells built p bs k b =
     inside : k + 1 ≤ length bs → (ltb (get_or bs k 0) 13 ≡ true) × (built (get_or bs k 0) ≡ true) → (x : Found Event) →
         AllTell p (event_format (get_or bs k 0)).fields (event_format (get_or bs k 0)).says bs k 1 x → Tells built p bs k x
     inside l on (Ok r) a = was r l on a
-    inside l on (Err j) a = (a.0, λ h pos c. fault j l on (a.1 pos))
+    inside l on (Err j) a = λ h pos c. fault j l on (a pos)
 
 -- a call that is short enough
 short : (built : ℕ → Bool) (p : ℕ) (bs : List ℕ) (k : ℕ) → length bs < 4294967296 → read_event built p bs k ≡ decode_event built p bs k
 short built p bs k l = ap (λ b. pick b (Err 4294967295) (decode_event built p bs k)) (lt-leb 4294967296 (length bs) l)
-
-pub event-within : (built : ℕ → Bool) (p : ℕ) (bs : List ℕ) (k : ℕ) → Bytes bs → (j : ℕ) → decode_event built p bs k ≡ Err j → j ≤ length bs
-event-within built p bs k b j q = (subst (Tells built p bs k) q (event-tells built p bs k b)).0
 
 pub read-was : (built : ℕ → Bool) (p : ℕ) (bs : List ℕ) (k : ℕ) → Bytes bs → (r : Event × ℕ) → read_event built p bs k ≡ Ok r → Was built p bs k r
 read-was built p bs k b r =
@@ -242,7 +236,7 @@ pub faults-first : FaultsFirst
 unfolding FaultsFirst
 faults-first built p bs k j b l h pos c q =
     let d = sym (short built p bs k l) ∙ q in
-    let f = (subst (Tells built p bs k) d (event-tells built p bs k b)).1 h pos c in
+    let f = subst (Tells built p bs k) d (event-tells built p bs k b) h pos c in
     record {
       from = f.from;
       within = f.within;

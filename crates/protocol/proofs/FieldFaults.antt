@@ -1,5 +1,5 @@
 -- What is read of a field is spelled so, and a fault in it is at the first byte that no such field has.
-use Rattle.std.proofs.Common.{◌≡◌, ℕ, zero, suc, ◌+◌, ◌-◌, ◌*◌, ◌^◌, ◌<◌, ◌≤◌, Bool, true, false, eqb, ltb, List, [], ◌∷◌, ◌++◌, length, get_or, take, drop, replicate, Ok, Err, sym, refl, ap, ◌∙◌, subst, pow-suc, arith}
+use Rattle.std.proofs.Common.{◌≡◌, ℕ, zero, suc, ◌+◌, ◌-◌, ◌*◌, ◌^◌, ◌<◌, ◌≤◌, Bool, true, false, eqb, ltb, List, [], ◌∷◌, ◌++◌, length, get_or, take, drop, replicate, Ok, Err, sym, refl, ap, ◌∙◌, pow-suc, arith}
 use Rattle.std.proofs.lemmas.Bool.{ltb-true, ltb-false, eqb-true, eqb-false}
 use Rattle.std.proofs.lemmas.List.{append_assoc, length-append, length-drop, length-replicate, take_all, take_rest, drop_all, drop_more}
 use Rattle.protocol.specs.Fields.{Bytes, Field, program, byte, plain, near, far, mark, only, row, Says, spell, field, Found, there, marked, number, numbers, digits, all_digits, signed}
@@ -144,7 +144,7 @@ elements-missing p bs k o w h b l m =
 -- What a reader's answer tells of a field.
 abbrev pub Tells : (p : ℕ) (f : Field) → List ℕ → ℕ → ℕ → Found (Says f) → Type 0
 Tells p f bs k o (Ok r) = Got p f bs k o r
-Tells p f bs k o (Err j) = (j ≤ length bs) × (0 < p → Bad p f bs k o j)
+Tells p f bs k o (Err j) = 0 < p → Bad p f bs k o j
 
 -- where any w bytes are such a field
 width-tells : (f : Field) (p w : ℕ) (says : ℕ → Says f) → ((n : ℕ) → n < 256 ^ w → Fit p f (says n) × (digits w n ≡ spell f (says n))) →
@@ -154,7 +154,7 @@ width-tells f p w says all bs k o h b =
     let bx = bytes_drop (k + o) bs b in
     by-there bs (k + (o + w)) _ (Tells p f bs k o)
     (λ l. let g = all (number w xs) (number_small w xs bx) in width-got f p bs k o w l b (says (number w xs)) g.0 g.1)
-    (λ l. (omega arith, λ _. let c = fill w xs (few-left bs k o w l) bx in let g = all c.0 c.2 in missing p f bs k o h (says c.0) c.1 g.0 (c.3 ∙ g.1)))
+    (λ l. (λ _. let c = fill w xs (few-left bs k o w l) bx in let g = all c.0 c.2 in missing p f bs k o h (says c.0) c.1 g.0 (c.3 ∙ g.1)))
 
 pub field-tells : (f : Field) (p : ℕ) (bs : List ℕ) (k o : ℕ) → k + o ≤ length bs → Bytes bs → Tells p f bs k o (field f p bs k o)
 field-tells program p bs k o h b =
@@ -162,12 +162,12 @@ field-tells program p bs k o h b =
     by-there bs (k + (o + 1)) _ (Tells p program bs k o)
     (λ l. by-pick (ltb g p) _ _ (Tells p program bs k o)
     (λ t. byte-got program p bs k o l g (ltb-true g p t) refl)
-    (λ t. (omega arith, λ pos. wrong p program bs k o l 0 pos (λ v s u fit e. omega (arith, heads g v s u e, ltb-false g p t, fit)))))
-    (λ l. (omega arith, λ pos. missing p program bs k o h 0 (0 ∷ []) pos (none_left bs k o 0 l)))
+    (λ t. (λ pos. wrong p program bs k o l 0 pos (λ v s u fit e. omega (arith, heads g v s u e, ltb-false g p t, fit)))))
+    (λ l. (λ pos. missing p program bs k o h 0 (0 ∷ []) pos (none_left bs k o 0 l)))
 field-tells byte p bs k o h b =
     by-there bs (k + (o + 1)) _ (Tells p byte bs k o)
     (λ l. byte-got byte p bs k o l (get_or bs (k + o) 0) (b (k + o)) refl)
-    (λ l. (omega arith, λ _. missing p byte bs k o h 0 (0 ∷ []) (omega arith) (none_left bs k o 0 l)))
+    (λ l. (λ _. missing p byte bs k o h 0 (0 ∷ []) (omega arith) (none_left bs k o 0 l)))
 field-tells (plain w) p bs k o h b = width-tells (plain w) p w (λ n. n) (λ n l. (l, refl)) bs k o h b
 field-tells near p bs k o h b =
     width-tells near p 2 (signed 32768) (λ n l. let s = stood-for 32768 n l in (near-from (signed 32768 n) s.1 s.2, ap (digits 2) (sym s.0))) bs k o h b
@@ -180,8 +180,8 @@ field-tells mark p bs k o h b =
     (λ t. byte-got mark p bs k o l false tt (ap (λ v. v ∷ []) (eqb-true g 0 t)))
     (λ t0. by-pick (eqb g 1) _ _ (Tells p mark bs k o)
     (λ t. byte-got mark p bs k o l true tt (ap (λ v. v ∷ []) (eqb-true g 1 t)))
-    (λ t1. (omega arith, λ _. wrong p mark bs k o l false tt (λ v s u fit e. no-mark g v (heads g (marked v) s u e) (eqb-false g 0 t0) (eqb-false g 1 t1))))))
-    (λ l. (omega arith, λ _. missing p mark bs k o h false (0 ∷ []) tt (none_left bs k o 0 l)))
+    (λ t1. (λ _. wrong p mark bs k o l false tt (λ v s u fit e. no-mark g v (heads g (marked v) s u e) (eqb-false g 0 t0) (eqb-false g 1 t1))))))
+    (λ l. (λ _. missing p mark bs k o h false (0 ∷ []) tt (none_left bs k o 0 l)))
   where
     no-mark : (g : ℕ) (v : Bool) → g ≡ marked v → (g ≡ 0 → ⊥) → (g ≡ 1 → ⊥) → ⊥
     no-mark g true e a c = c e
@@ -191,11 +191,11 @@ field-tells (only c) p bs k o h b =
     by-there bs (k + (o + 1)) _ (Tells p (only c) bs k o)
     (λ l. by-pick (eqb g c) _ _ (Tells p (only c) bs k o)
     (λ t. byte-got (only c) p bs k o l tt tt (ap (λ v. v ∷ []) (eqb-true g c t)))
-    (λ t. (omega arith, λ _. wrong p (only c) bs k o l tt tt (λ v s u fit e. eqb-false g c t (heads g c s u e)))))
-    (λ l. (omega arith, λ _. missing p (only c) bs k o h tt (c ∷ []) tt (none_left bs k o c l)))
+    (λ t. (λ _. wrong p (only c) bs k o l tt tt (λ v s u fit e. eqb-false g c t (heads g c s u e)))))
+    (λ l. (λ _. missing p (only c) bs k o h tt (c ∷ []) tt (none_left bs k o c l)))
 field-tells (row w) p bs k o h b =
     by-there bs (k + (o + 2)) _ (Tells p (row w) bs k o)
     (λ l. by-there bs (k + (o + 2 + w * number 2 (drop (k + o) bs))) _ (Tells p (row w) bs k o)
     (λ m. row-got p bs k o w l m b)
-    (λ m. (omega arith, λ _. elements-missing p bs k o w h b l m)))
-    (λ l. (omega arith, λ _. count-missing p bs k o w h b l))
+    (λ m. (λ _. elements-missing p bs k o w h b l m)))
+    (λ l. (λ _. count-missing p bs k o w h b l))

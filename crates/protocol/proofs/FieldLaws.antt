@@ -1,13 +1,13 @@
 -- Each kind of field: what is spelled is read, what is read is spelled so, and a fault is at the first byte that no such field has.
-use Rattle.std.proofs.Common.{◌≡◌, ℕ, ◌+◌, ◌*◌, ◌^◌, ◌<◌, ◌≤◌, true, false, eqb, ltb, List, [], ◌∷◌, ◌++◌, length, get_or, take, drop, ℤ, pos, neg_ℤ, ◌≤ℤ◌, ◌<ℤ◌, Ok, sym, refl, ap, ◌∙◌, subst, arith}
+use Rattle.std.proofs.Common.{◌≡◌, ℕ, ◌+◌, ◌*◌, ◌^◌, ◌<◌, ◌≤◌, true, false, List, [], ◌∷◌, ◌++◌, length, get_or, take, drop, ℤ, pos, neg_ℤ, ◌≤ℤ◌, ◌<ℤ◌, Ok, sym, refl, ap, ◌∙◌, arith}
 use Rattle.std.proofs.lemmas.Int.{ints}
-use Rattle.std.proofs.lemmas.Bool.{le-ltb, lt-ltb, eq-eqb, ltb-true, eqb-true}
+use Rattle.std.proofs.lemmas.Bool.{le-ltb, lt-ltb, eq-eqb}
 use Rattle.std.proofs.lemmas.List.{length-drop}
-use Rattle.protocol.specs.Fields.{Bytes, Field, program, byte, plain, near, far, mark, only, row, Says, spell, field, number, numbers, digits, all_digits, signed, unsigned}
+use Rattle.protocol.specs.Fields.{Bytes, Field, program, byte, plain, near, far, mark, only, row, Says, spell, field, number, numbers, digits, all_digits, unsigned}
 use Rattle.protocol.specs.Laws.{Near, Far, Row}
 use Rattle.protocol.proofs.Rows.{bytes_drop, length_digits, number_digits, digits_number, number_small, length-numbers, numbers-small, length-all-digits, numbers-all-digits, all-digits-numbers}
-use Rattle.protocol.proofs.Signs.{stands-for, stood-for}
-use Rattle.protocol.proofs.Tests.{ok_same, err-not-ok, by-pick, by-there, ends-within, goes_on, stands, one_more, some_more}
+use Rattle.protocol.proofs.Signs.{stands-for}
+use Rattle.protocol.proofs.Tests.{ends-within, goes_on, stands, one_more, some_more}
 
 -- what a field can say, where there are p programs
 abbrev pub Fit : ℕ → (f : Field) → Says f → Type 0

@@ -1,5 +1,5 @@
 -- Fields one after another: what is spelled is read, what is read is spelled so, and a fault is at the first byte that no such fields have.
-use Rattle.std.proofs.Common.{◌≡◌, ℕ, suc, ◌+◌, ◌-◌, ◌<◌, ◌≤◌, List, [], ◌∷◌, ◌++◌, length, take, drop, Ok, Err, sym, refl, ap, ◌∙◌, subst, arith}
+use Rattle.std.proofs.Common.{◌≡◌, ℕ, suc, ◌+◌, ◌-◌, ◌<◌, ◌≤◌, List, [], ◌∷◌, ◌++◌, length, take, drop, Ok, Err, sym, refl, ap, ◌∙◌, arith}
 use lib.Seq.{take-append-add}
 use Rattle.std.proofs.lemmas.List.{append_assoc, append_cancel_left, length-append}
 use Rattle.protocol.specs.Fields.{Bytes, Field, Says, spell, field, From, Found, then, decode}
@@ -73,22 +73,29 @@ past bs xs i to n l e h =
     let z : n - i ≡ length xs + (n - to) = omega arith in
     ap (λ m. take m (drop i bs)) z ∙ ap (take (length xs + (n - to))) e ∙ take-append-add xs (drop to bs) (n - to)
 
+-- and one byte more
+pub past_one : (bs xs : List ℕ) (i to j : ℕ) → to ≡ i + length xs → drop i bs ≡ xs ++ drop to bs → to ≤ j → take (suc (j - i)) (drop i bs) ≡ xs ++ take (suc (j - to)) (drop to bs)
+past_one bs xs i to j l e h =
+    let z : suc (j - i) ≡ suc j - i = omega arith in
+    let z2 : suc j - to ≡ suc (j - to) = omega arith in
+    ap (λ n. take n (drop i bs)) z ∙ past bs xs i to (suc j) l e (omega arith) ∙ ap (λ n. xs ++ take n (drop to bs)) z2
+
 -- what a reader's answer tells of them
 abbrev pub AllTell : {A : Type 0} (p : ℕ) (fs : List Field) → From fs A → List ℕ → ℕ → ℕ → Found A → Type 0
 AllTell p fs m bs k o (Ok r) = AllGot p fs m bs k o r
-AllTell p fs m bs k o (Err j) = (j ≤ length bs) × (0 < p → AllBad p fs bs k o j)
+AllTell p fs m bs k o (Err j) = 0 < p → AllBad p fs bs k o j
 
 by-tells : {A : Type 0} (p : ℕ) (f : Field) (bs : List ℕ) (k o : ℕ) (x : Found (Says f)) → Tells p f bs k o x → (g : Says f → ℕ → Found A) (P : Found A → Type 0) →
-    ((y : Says f × ℕ) → Got p f bs k o y → P (g y.0 y.1)) → ((j : ℕ) → j ≤ length bs → (0 < p → Bad p f bs k o j) → P (Err j)) → P (then x g)
+    ((y : Says f × ℕ) → Got p f bs k o y → P (g y.0 y.1)) → ((j : ℕ) → (0 < p → Bad p f bs k o j) → P (Err j)) → P (then x g)
 by-tells p f bs k o (Ok y) t g P a c = a y t
-by-tells p f bs k o (Err j) t g P a c = c j t.0 t.1
+by-tells p f bs k o (Err j) t g P a c = c j t
 
 pub all-tell : (A : Type 0) (fs : List Field) (m : From fs A) (p : ℕ) (bs : List ℕ) (k o : ℕ) → k + o ≤ length bs → Bytes bs → AllTell {A = A} p fs m bs k o (decode {A = A} fs m p bs k o)
 all-tell A [] m p bs k o h b = record { values = tt; fits = tt; is = refl; from = omega arith; within = h; spelt = refl }
 all-tell A (f ∷ fs) m p bs k o h b =
     by-tells p f bs k o (field f p bs k o) (field-tells f p bs k o h b) (λ v to. decode {A = A} fs (m v) p bs k to) (AllTell {A = A} p (f ∷ fs) m bs k o)
     (λ y g. onward y g (decode {A = A} fs (m y.0) p bs k y.1) (all-tell A fs (m y.0) p bs k y.1 g.within b))
-    (λ j l d. (l, λ pos. first j pos (d pos)))
+    (λ j d pos. first j pos (d pos))
   where
     first : (i : ℕ) → 0 < p → Bad p f bs k o i → AllBad p (f ∷ fs) bs k o i
     first i pos d =
@@ -119,10 +126,7 @@ all-tell A (f ∷ fs) m p bs k o h b =
           within = a.within;
           before = ((v, vs), t, (g.fits, a.before.2), ap (λ l. l ++ t) c ∙ append_assoc xs ys t ∙ ap (λ l. xs ++ l) a.before.3);
           here = λ l ws t u fit e.
-              let z : suc (j - i) ≡ suc j - i = omega (arith, a.from) in
-              let z2 : suc j - to ≡ suc (j - to) = omega (arith, a.from) in
-              let d : take (suc (j - i)) (drop i bs) ≡ xs ++ take (suc (j - to)) (drop to bs) =
-              ap (λ n. take n (drop i bs)) z ∙ past bs xs i to (suc j) lx g.spelt (omega (arith, a.from)) ∙ ap (λ n. xs ++ take n (drop to bs)) z2 in
+              let d = past_one bs xs i to j lx g.spelt a.from in
               let zs = take (suc (j - to)) (drop to bs) in
               let e1 : xs ++ (zs ++ t) ≡ spell f ws.0 ++ (bytes fs ws.1 ++ u) =
               sym (append_assoc xs zs t) ∙ ap (λ l. l ++ t) (sym d) ∙ e ∙ append_assoc (spell f ws.0) (bytes fs ws.1) u in
@@ -141,4 +145,4 @@ all-tell A (f ∷ fs) m p bs k o h b =
           within = a.within;
           spelt = g.spelt ∙ ap (λ t. spell f y.0 ++ t) a.spelt ∙ sym (append_assoc (spell f y.0) (bytes fs a.values) (drop r.1 bs));
         }
-    onward y g (Err j) a = (a.0, λ pos. later y j g (a.1 pos))
+    onward y g (Err j) a = λ pos. later y j g (a pos)

@@ -3,7 +3,7 @@ use Rattle.std.proofs.Common.{◌≡◌, ℕ, ◌+◌, ◌-◌, ◌<◌, ◌≤�
 use Rattle.std.proofs.lemmas.Bool.{ltb-true, ltb-false, le-ltb}
 use Rattle.std.proofs.lemmas.List.{length-append, length-drop, get_or-drop, drop-drop, drop_at, drop_more, take-append-drop, take_at}
 use Rattle.model.specs.Basics.{pick}
-use Rattle.protocol.specs.Fields.{Found, there, then}
+use Rattle.protocol.specs.Fields.{Found, there}
 
 pub ok_same : {A : Type 0} (x y : A × ℕ) → ◌≡◌ {A = Found A} (Ok x) (Ok y) → x ≡ y
 ok_same x y e = cc

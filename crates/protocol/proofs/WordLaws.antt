@@ -9,7 +9,7 @@ use Rattle.protocol.specs.Formats.{encode_word, word_format, decode_word_kind, d
 use Rattle.protocol.specs.Laws.{CarriedWord, spell_told, Told, Begins, ReadsWordBack, ReadsWordsOnly, WordFaultsFirst, WordFaultsWhereNone}
 use Rattle.protocol.proofs.Tests.{ok-not-err, err-not-ok, by-pick, there-ok, by-there, ends-within, goes_on, stands, one_more, answer, size-read}
 use Rattle.protocol.proofs.FieldFaults.{heads}
-use Rattle.protocol.proofs.Sequences.{Values, apply, bytes, Fits, all_read, AllGot, AllBad, past, AllTell, all-tell}
+use Rattle.protocol.proofs.Sequences.{Values, apply, bytes, Fits, all_read, AllGot, AllBad, past, past_one, AllTell, all-tell}
 
 -- a word by its kind and what its fields say
 record View (c : ℕ) (w : Word) : Type 0 where
@@ -99,7 +99,7 @@ refusal c h = (h, tt)
 -- what a reader's answer tells of a row
 abbrev Tells : List ℕ → ℕ → Found (ℕ × Word) → Type 0
 Tells bs k (Ok r) = Was bs k r
-Tells bs k (Err j) = (j ≤ length bs) × (k ≤ length bs → FaultAt bs k j)
+Tells bs k (Err j) = k ≤ length bs → FaultAt bs k j
 
 word-tells : (bs : List ℕ) (k : ℕ) → Bytes bs → Tells bs k (decode_word bs k)
 word-tells bs k b =
@@ -107,8 +107,8 @@ word-tells bs k b =
     by-there bs (k + 2) _ (Tells bs k)
     (λ l. by-pick (ltb g 7) _ _ (Tells bs k)
     (λ t. inside l (ltb-true g 7 t) (decode_word_kind g bs k) (all-tell Word (word_format g).fields (word_format g).says 256 bs k 2 l b))
-    (λ t. (omega arith, λ h. at-kind l (ltb-false g 7 t))))
-    (λ l. (omega arith, λ h. at-end h l))
+    (λ t. (λ h. at-kind l (ltb-false g 7 t))))
+    (λ l. (λ h. at-end h l))
   where
     was : (y : Word × ℕ) → k + 2 ≤ length bs → get_or bs (k + 1) 0 < 7 → AllGot 256 (word_format (get_or bs (k + 1) 0)).fields (word_format (get_or bs (k + 1) 0)).says bs k 2 y →
         Was bs k ((get_or bs k 0, y.0), y.1)
@@ -186,11 +186,8 @@ word-tells bs k b =
           );
           here = λ n m s w.
               let v = view m.0 m.1 s.1 in
-              let z1 : suc (i - k) ≡ suc i - k = omega (arith, d.from) in
-              let z2 : suc i - (k + 2) ≡ suc (i - (k + 2)) = omega (arith, d.from) in
               let rest = take (suc (i - (k + 2))) (drop (k + 2) bs) in
-              let f : take (suc (i - k)) (drop k bs) ≡ c ∷ g ∷ rest =
-              ap (λ n. take n (drop k bs)) z1 ∙ front (suc i) l (omega (arith, d.from)) ∙ ap (λ n. c ∷ g ∷ take n (drop (k + 2) bs)) z2 in
+              let f = past_one bs (c ∷ g ∷ []) k (k + 2) i refl (two-front bs k l) d.from in
               let e1 : c ∷ g ∷ (rest ++ w.0) ≡ m.0 ∷ v.q ∷ bytes (word_format v.q).fields v.values = sym (ap (λ t. t ++ w.0) f) ∙ w.1 ∙ v.spelt in
               let same : g ≡ v.q = heads g v.q (rest ++ w.0) (bytes (word_format v.q).fields v.values) (ap (drop 1) e1) in
               let P : ℕ → Type 0 = λ q. AllBad 256 (word_format q).fields bs k 2 i in
@@ -201,14 +198,11 @@ word-tells bs k b =
     inside : k + 2 ≤ length bs → get_or bs (k + 1) 0 < 7 → (x : Found Word) →
         AllTell 256 (word_format (get_or bs (k + 1) 0)).fields (word_format (get_or bs (k + 1) 0)).says bs k 2 x → Tells bs k (told (get_or bs k 0) x)
     inside l low (Ok y) a = was y l low a
-    inside l low (Err j) a = (a.0, λ h. fault j l low (a.1 (omega arith)))
+    inside l low (Err j) a = λ h. fault j l low (a (omega arith))
 
 -- a row that is short enough
 short : (bs : List ℕ) (k : ℕ) → length bs < 4294967296 → read_told bs k ≡ decode_word bs k
 short bs k l = ap (λ b. pick b (Err 4294967295) (decode_word bs k)) (lt-leb 4294967296 (length bs) l)
-
-pub word-within : (bs : List ℕ) (k : ℕ) → Bytes bs → (j : ℕ) → decode_word bs k ≡ Err j → j ≤ length bs
-word-within bs k b j q = (subst (Tells bs k) q (word-tells bs k b)).0
 
 pub read-was : (bs : List ℕ) (k : ℕ) → Bytes bs → (r : (ℕ × Word) × ℕ) → read_told bs k ≡ Ok r → Was bs k r
 read-was bs k b r =
@@ -231,7 +225,7 @@ pub word-faults-first : WordFaultsFirst
 unfolding WordFaultsFirst
 word-faults-first bs k j b l h q =
     let d = sym (short bs k l) ∙ q in
-    let f = (subst (Tells bs k) d (word-tells bs k b)).1 h in
+    let f = subst (Tells bs k) d (word-tells bs k b) h in
     record {
       from = f.from;
       within = f.within;
