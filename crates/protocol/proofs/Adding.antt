@@ -1,13 +1,10 @@
 -- One byte added, and one row of bytes after another.
-use Rattle.std.proofs.Common.{◌≡◌, ℕ, ◌+◌, ◌<◌, ◌≤◌, Bool, true, false, leb, List, [], ◌∷◌, ◌++◌, length, take, drop, set, Some, None, sym, refl, ap, ◌∙◌, subst, arith}
-use Rattle.std.proofs.lemmas.List.{append_assoc, append-nil, length-append, drop-drop, drop-set-lt, take_more_set}
+use Rattle.std.proofs.Common.{◌≡◌, ℕ, ◌+◌, ◌≤◌, Bool, true, false, leb, List, [], ◌++◌, length, take, drop, Some, None, sym, refl, ap, ◌∙◌, subst, arith}
+use Rattle.std.proofs.lemmas.List.{append_assoc, append-nil, length-append, drop-drop}
 use Rattle.std.proofs.lemmas.Slice.{take-put_mid, drop-put_mid}
 use borrow.Rule.Slice.PartMut.{put_mid}
 use Rattle.std.proofs.lemmas.Bool.{and_from, and_left, and_right}
 use Rattle.protocol.specs.Added.{Added, Wrote}
-
-pub added-one : (at b : ℕ) (xs : List ℕ) → at < length xs → Added at (at + 1) (b ∷ []) xs (set xs at b)
-added-one at b xs h = record { ends = refl; front = take_more_set xs at b h; rest = drop-set-lt (at + 1) xs at b (omega arith) }
 
 pub added_then : (at mid to : ℕ) (bs cs x y z : List ℕ) → Added at mid bs x y → Added mid to cs y z → Added at to (bs ++ cs) x z
 added_then at mid to bs cs x y z p q =

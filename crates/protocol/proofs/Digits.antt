@@ -1,12 +1,11 @@
 -- Numbers in bytes.
-use Rattle.std.proofs.Common.{◌≡◌, ℕ, suc, ◌+◌, ◌*◌, ◌/◌, ◌%◌, ◌<◌, ◌≤◌, true, false, List, [], ◌∷◌, ◌++◌, length, get_or, drop, ℤ, pos, ◌+ℤ◌, ◌-ℤ◌, nat_abs, ◌≤ℤ◌, ◌<ℤ◌, refl, sym, ap, ◌∙◌, inl, inr, w16, w32, to_z, of_z, SFits, negsuc, arith}
-use native.Mathlib.Nat.{div-div-eq-div-mul}
+use Rattle.std.proofs.Common.{◌≡◌, ℕ, suc, ◌+◌, ◌*◌, ◌<◌, ◌≤◌, true, false, List, [], ◌∷◌, length, get_or, drop, ℤ, pos, ◌+ℤ◌, ◌-ℤ◌, nat_abs, ◌≤ℤ◌, ◌<ℤ◌, refl, sym, ap, ◌∙◌, inl, inr, w16, w32, to_z, of_z, SFits, negsuc, arith}
 use lib.Signed.{lt_z}
 use Rattle.std.proofs.lemmas.Int.{ints, to_z_pos}
 use Rattle.std.proofs.lemmas.Bool.{lt-ltb, le-ltb, cases_lt}
 use Rattle.std.proofs.lemmas.List.{drop_more}
 use Rattle.std.specs.Int.{from_le_bytes}
-use Rattle.protocol.specs.Fields.{number, digits, signed, unsigned}
+use Rattle.protocol.specs.Fields.{number, signed, unsigned}
 
 -- a number of one byte more, by its first byte
 pub number_more : (w : ℕ) (bs : List ℕ) (k : ℕ) → k < length bs → number (suc w) (drop k bs) ≡ get_or bs k 0 + 256 * number w (drop (k + 1) bs)
@@ -45,20 +44,6 @@ signed_low h n z l e = rw (lt-ltb n h l) e
 pub signed_high : (h n : ℕ) (z : ℤ) → h ≤ n → z ≡ pos n -ℤ pos (h + h) → z ≡ signed h n
 unfolding signed
 signed_high h n z l e = rw (le-ltb n h l) e
-
--- digits of two and of four bytes
-pub digits-two : (v : ℕ) → v < 65536 → v % 256 ∷ (v / 256) ∷ [] ≡ digits 2 v
-digits-two v h = ap (λ t. v % 256 ∷ t ∷ []) (omega arith)
-
-low_byte : (a q b : ℕ) → a ≡ 256 * q + b → b % 256 ≡ a % 256
-low_byte a q b e = omega arith
-
-pub digits-four : (v : ℕ) → digits 2 (v % 65536) ++ digits 2 (v / 65536) ≡ digits 4 v
-digits-four v =
-    let c : v / 256 / 256 ≡ v / 65536 = div-div-eq-div-mul v 256 256 in
-    let b : v % 65536 / 256 % 256 ≡ v / 256 % 256 = low_byte (v / 256) (v / 65536) (v % 65536 / 256) (omega (arith, c)) in
-    let a : v % 65536 % 256 ≡ v % 256 = omega arith in
-    rw (a, b, c)
 
 -- the two ways to lose a sign
 pub unsigned-below : (h : ℕ) (z : ℤ) (n : ℕ) → z <ℤ pos 0 → pos n ≡ z +ℤ pos (h + h) → n ≡ unsigned h z

@@ -7,9 +7,9 @@ use Rattle.model.specs.Desk.{Event, make, close, move, raise, show, fill, put, c
 use Rattle.protocol.specs.Fields.{all_digits, unsigned, Bytes, Found}
 use Rattle.protocol.specs.Formats.{encode, event_format, decode_kind, decode_event, read_event}
 use Rattle.protocol.specs.Laws.{Carried, Sent, Begins, ReadsBack, ReadsOnly, FaultsFirst, FaultsWhereNone, Worked}
-use Rattle.protocol.proofs.Tests.{err-same, ok-not-err, err-not-ok, by-pick, there-ok, by-there, ends-within, goes_on, stands, one_more, answer, size-read}
+use Rattle.protocol.proofs.Tests.{ok-not-err, err-not-ok, by-pick, there-ok, by-there, ends-within, goes_on, stands, one_more, answer, size-read}
 use Rattle.protocol.proofs.FieldFaults.{heads}
-use Rattle.protocol.proofs.Sequences.{Values, apply, bytes, Fits, all_read, AllGot, all-only, some-all, AllBad, past, all-faults}
+use Rattle.protocol.proofs.Sequences.{Values, apply, bytes, Fits, all_read, AllGot, some-all, AllBad, past, past_one, AllTell, all-tell}
 
 -- an event by its kind and what its fields say
 record View (p : ℕ) (e : Event) : Type 0 where
@@ -59,40 +59,22 @@ record Back (p q : ℕ) (vs : Values (event_format q).fields) : Type 0 where
 abbrev Backs : ℕ → ℕ → Type 0
 Backs p q = (vs : Values (event_format q).fields) → Fits p (event_format q).fields vs → Back p q vs
 
-below-13 : (P : ℕ → Type 0) → P 0 → P 1 → P 2 → P 3 → P 4 → P 5 → P 6 → P 7 → P 8 → P 9 → P 10 → P 11 → P 12 → (q : ℕ) → q < 13 → P q
-below-13 P a0 a1 a2 a3 a4 a5 a6 a7 a8 a9 a10 a11 a12 zero h = a0
-below-13 P a0 a1 a2 a3 a4 a5 a6 a7 a8 a9 a10 a11 a12 (suc zero) h = a1
-below-13 P a0 a1 a2 a3 a4 a5 a6 a7 a8 a9 a10 a11 a12 (suc (suc zero)) h = a2
-below-13 P a0 a1 a2 a3 a4 a5 a6 a7 a8 a9 a10 a11 a12 (suc (suc (suc zero))) h = a3
-below-13 P a0 a1 a2 a3 a4 a5 a6 a7 a8 a9 a10 a11 a12 (suc (suc (suc (suc zero)))) h = a4
-below-13 P a0 a1 a2 a3 a4 a5 a6 a7 a8 a9 a10 a11 a12 (suc (suc (suc (suc (suc zero))))) h = a5
-below-13 P a0 a1 a2 a3 a4 a5 a6 a7 a8 a9 a10 a11 a12 (suc (suc (suc (suc (suc (suc zero)))))) h = a6
-below-13 P a0 a1 a2 a3 a4 a5 a6 a7 a8 a9 a10 a11 a12 (suc (suc (suc (suc (suc (suc (suc zero))))))) h = a7
-below-13 P a0 a1 a2 a3 a4 a5 a6 a7 a8 a9 a10 a11 a12 (suc (suc (suc (suc (suc (suc (suc (suc zero)))))))) h = a8
-below-13 P a0 a1 a2 a3 a4 a5 a6 a7 a8 a9 a10 a11 a12 (suc (suc (suc (suc (suc (suc (suc (suc (suc zero))))))))) h = a9
-below-13 P a0 a1 a2 a3 a4 a5 a6 a7 a8 a9 a10 a11 a12 (suc (suc (suc (suc (suc (suc (suc (suc (suc (suc zero)))))))))) h = a10
-below-13 P a0 a1 a2 a3 a4 a5 a6 a7 a8 a9 a10 a11 a12 (suc (suc (suc (suc (suc (suc (suc (suc (suc (suc (suc zero))))))))))) h = a11
-below-13 P a0 a1 a2 a3 a4 a5 a6 a7 a8 a9 a10 a11 a12 (suc (suc (suc (suc (suc (suc (suc (suc (suc (suc (suc (suc zero)))))))))))) h = a12
-below-13 P a0 a1 a2 a3 a4 a5 a6 a7 a8 a9 a10 a11 a12 (suc (suc (suc (suc (suc (suc (suc (suc (suc (suc (suc (suc (suc q))))))))))))) h = absurd (let z : ⊥ = omega arith in z)
-
 back : (p q : ℕ) → q < 13 → Backs p q
 unfolding kind Carried
-back p q h =
-    below-13 (Backs p)
-    (λ vs f. record { carried = (f.0, f.1.0, f.1.1.0, f.1.1.1.0, f.1.1.1.1.0); of-kind = refl; spelt = refl })
-    (λ vs f. record { carried = (f.0, f.1.0); of-kind = refl; spelt = refl })
-    (λ vs f. record { carried = (f.0, f.1.0, f.1.1.0, f.1.1.1.0); of-kind = refl; spelt = refl })
-    (λ vs f. record { carried = (f.0, f.1.0); of-kind = refl; spelt = refl })
-    (λ vs f. record { carried = (f.0, f.1.0); of-kind = refl; spelt = refl })
-    (λ vs f. record { carried = (f.0, f.1.0, f.1.1.0, f.1.1.1.0, f.1.1.1.1.0, f.1.1.1.1.1.0, f.1.1.1.1.1.1.0); of-kind = refl; spelt = refl })
-    (λ vs f. record { carried = (f.0, f.1.0, f.1.1.0, f.1.1.1.0, f.1.1.1.1.0); of-kind = refl; spelt = refl })
-    (λ vs f. record { carried = (f.0, f.1.0, f.1.1.0, f.1.1.1.0, f.1.1.1.1.0, f.1.1.1.1.1.0, f.1.1.1.1.1.1.0, f.1.1.1.1.1.1.1.0); of-kind = refl; spelt = refl })
-    (λ vs f. record { carried = (f.0, f.1.0); of-kind = refl; spelt = refl })
-    (λ vs f. record { carried = (f.0, f.1.0); of-kind = refl; spelt = refl })
-    (λ vs f. record { carried = tt; of-kind = refl; spelt = refl })
-    (λ vs f. record { carried = f.0; of-kind = refl; spelt = refl })
-    (λ vs f. record { carried = tt; of-kind = refl; spelt = refl })
-    q h
+back p zero h vs f = record { carried = (f.0, f.1.0, f.1.1.0, f.1.1.1.0, f.1.1.1.1.0); of-kind = refl; spelt = refl }
+back p (suc zero) h vs f = record { carried = (f.0, f.1.0); of-kind = refl; spelt = refl }
+back p (suc (suc zero)) h vs f = record { carried = (f.0, f.1.0, f.1.1.0, f.1.1.1.0); of-kind = refl; spelt = refl }
+back p (suc (suc (suc zero))) h vs f = record { carried = (f.0, f.1.0); of-kind = refl; spelt = refl }
+back p (suc (suc (suc (suc zero)))) h vs f = record { carried = (f.0, f.1.0); of-kind = refl; spelt = refl }
+back p (suc (suc (suc (suc (suc zero))))) h vs f = record { carried = (f.0, f.1.0, f.1.1.0, f.1.1.1.0, f.1.1.1.1.0, f.1.1.1.1.1.0, f.1.1.1.1.1.1.0); of-kind = refl; spelt = refl }
+back p (suc (suc (suc (suc (suc (suc zero)))))) h vs f = record { carried = (f.0, f.1.0, f.1.1.0, f.1.1.1.0, f.1.1.1.1.0); of-kind = refl; spelt = refl }
+back p (suc (suc (suc (suc (suc (suc (suc zero))))))) h vs f = record { carried = (f.0, f.1.0, f.1.1.0, f.1.1.1.0, f.1.1.1.1.0, f.1.1.1.1.1.0, f.1.1.1.1.1.1.0, f.1.1.1.1.1.1.1.0); of-kind = refl; spelt = refl }
+back p (suc (suc (suc (suc (suc (suc (suc (suc zero)))))))) h vs f = record { carried = (f.0, f.1.0); of-kind = refl; spelt = refl }
+back p (suc (suc (suc (suc (suc (suc (suc (suc (suc zero))))))))) h vs f = record { carried = (f.0, f.1.0); of-kind = refl; spelt = refl }
+back p (suc (suc (suc (suc (suc (suc (suc (suc (suc (suc zero)))))))))) h vs f = record { carried = tt; of-kind = refl; spelt = refl }
+back p (suc (suc (suc (suc (suc (suc (suc (suc (suc (suc (suc zero))))))))))) h vs f = record { carried = f.0; of-kind = refl; spelt = refl }
+back p (suc (suc (suc (suc (suc (suc (suc (suc (suc (suc (suc (suc zero)))))))))))) h vs f = record { carried = tt; of-kind = refl; spelt = refl }
+back p (suc (suc (suc (suc (suc (suc (suc (suc (suc (suc (suc (suc (suc q))))))))))))) h vs f = absurd (let z : ⊥ = omega arith in z)
 
 -- the answer where the kind's byte is x
 abbrev by_kind : (ℕ → Bool) → ℕ → List ℕ → ℕ → ℕ → Found Event
@@ -123,28 +105,6 @@ pub record Was (built : ℕ → Bool) (p : ℕ) (bs : List ℕ) (k : ℕ) (r : E
   pub within : r.1 ≤ length bs
   pub spelt : drop k bs ≡ encode r.0 ++ drop r.1 bs
 
-event-only : (built : ℕ → Bool) (p : ℕ) (bs : List ℕ) (k : ℕ) → Bytes bs → (r : Event × ℕ) → decode_event built p bs k ≡ Ok r → Was built p bs k r
-event-only built p bs k b r =
-    let g = get_or bs k 0 in
-    by-there bs (k + 1) _ (λ x. x ≡ Ok r → Was built p bs k r)
-    (λ l. by-pick (ltb g 13 && built g) _ _ (λ x. x ≡ Ok r → Was built p bs k r)
-    (λ t q. was l (and_parts (ltb g 13) (built g) t) (all-only (event_format g).fields (event_format g).says p bs k 1 l b r q))
-    (λ t q. absurd (err-not-ok r k q)))
-    (λ l q. absurd (err-not-ok r (length bs) q))
-  where
-    was : k + 1 ≤ length bs → (ltb (get_or bs k 0) 13 ≡ true) × (built (get_or bs k 0) ≡ true) →
-        AllGot p (event_format (get_or bs k 0)).fields (event_format (get_or bs k 0)).says bs k 1 r → Was built p bs k r
-    was l on a =
-        let g = get_or bs k 0 in
-        let fs = (event_format g).fields in
-        let k' = back p g (ltb-true g 13 on.0) a.values a.fits in
-        let P : Event → Type 0 = λ e. Sent built p e × (drop k bs ≡ encode e ++ drop r.1 bs) in
-        let w = subst P a.is (
-          (k'.carried, ap built k'.of-kind ∙ on.1),
-          one_more bs k (k + 1) (omega arith) refl ∙ ap (λ t. g ∷ t) a.spelt ∙ ap (λ t. t ++ drop r.1 bs) (sym k'.spelt),
-        ) in
-        record { sent = w.0; after = omega (arith, a.from); within = a.within; spelt = w.1 }
-
 -- some event of a kind that is built
 some-event : (built : ℕ → Bool) (p : ℕ) → 0 < p → ((q : ℕ) × (q < 13) × (built q ≡ true)) → (e : Event) × Sent built p e
 some-event built p pos c =
@@ -160,25 +120,39 @@ record FaultAt (built : ℕ → Bool) (p : ℕ) (bs : List ℕ) (k j : ℕ) : Ty
   before : (e : Event) × Sent built p e × Begins encode bs k (j - k) e
   here : j < length bs → (e : Event) → Sent built p e → Begins encode bs k (suc (j - k)) e → ⊥
 
-event-faults : (built : ℕ → Bool) (p : ℕ) (bs : List ℕ) (k : ℕ) → Bytes bs → k ≤ length bs → 0 < p → ((q : ℕ) × (q < 13) × (built q ≡ true)) →
-    (j : ℕ) → decode_event built p bs k ≡ Err j → FaultAt built p bs k j
-event-faults built p bs k b h pos c j =
+-- what a reader's answer tells of a call
+abbrev Tells : (ℕ → Bool) → ℕ → List ℕ → ℕ → Found Event → Type 0
+Tells built p bs k (Ok r) = Was built p bs k r
+Tells built p bs k (Err j) = k ≤ length bs → 0 < p → ((q : ℕ) × (q < 13) × (built q ≡ true)) → FaultAt built p bs k j
+
+event-tells : (built : ℕ → Bool) (p : ℕ) (bs : List ℕ) (k : ℕ) → Bytes bs → Tells built p bs k (decode_event built p bs k)
+event-tells built p bs k b =
     let g = get_or bs k 0 in
-    by-there bs (k + 1) _ (λ x. x ≡ Err j → FaultAt built p bs k j)
-    (λ l. by-pick (ltb g 13 && built g) _ _ (λ x. x ≡ Err j → FaultAt built p bs k j)
-    (λ t q. inside l (and_parts (ltb g 13) (built g) t) (all-faults (event_format g).fields (event_format g).says p bs k 1 l b pos j q))
-    (λ t q. subst (FaultAt built p bs k) (err-same {A = Event} k j q) (at-kind l t)))
-    (λ l q. subst (FaultAt built p bs k) (err-same {A = Event} (length bs) j q) (at-end l))
+    by-there bs (k + 1) _ (Tells built p bs k)
+    (λ l. by-pick (ltb g 13 && built g) _ _ (Tells built p bs k)
+    (λ t. inside l (and_parts (ltb g 13) (built g) t) (decode_kind g p bs k) (all-tell Event (event_format g).fields (event_format g).says p bs k 1 l b))
+    (λ t. (λ h pos c. at-kind (some-event built p pos c) l t)))
+    (λ l. (λ h pos c. at-end (some-event built p pos c) h l))
   where
-    e0 : (e : Event) × Sent built p e
-    e0 = some-event built p pos c
+    was : (r : Event × ℕ) → k + 1 ≤ length bs → (ltb (get_or bs k 0) 13 ≡ true) × (built (get_or bs k 0) ≡ true) →
+        AllGot p (event_format (get_or bs k 0)).fields (event_format (get_or bs k 0)).says bs k 1 r → Was built p bs k r
+    was r l on a =
+        let g = get_or bs k 0 in
+        let fs = (event_format g).fields in
+        let k' = back p g (ltb-true g 13 on.0) a.values a.fits in
+        let P : Event → Type 0 = λ e. Sent built p e × (drop k bs ≡ encode e ++ drop r.1 bs) in
+        let w = subst P a.is (
+          (k'.carried, ap built k'.of-kind ∙ on.1),
+          one_more bs k (k + 1) (omega arith) refl ∙ ap (λ t. g ∷ t) a.spelt ∙ ap (λ t. t ++ drop r.1 bs) (sym k'.spelt),
+        ) in
+        record { sent = w.0; after = omega (arith, a.from); within = a.within; spelt = w.1 }
 
     -- the bytes from k on up to n, with the kind's byte in front
     front : (n : ℕ) → k + 1 ≤ length bs → k + 1 ≤ n → take (n - k) (drop k bs) ≡ get_or bs k 0 ∷ take (n - (k + 1)) (drop (k + 1) bs)
     front n l m = past bs (get_or bs k 0 ∷ []) k (k + 1) n refl (one_more bs k (k + 1) (omega arith) refl) m
 
-    at-end : length bs < k + 1 → FaultAt built p bs k (length bs)
-    at-end l =
+    at-end : (e : Event) × Sent built p e → k ≤ length bs → length bs < k + 1 → FaultAt built p bs k (length bs)
+    at-end e0 h l =
         record {
           from = h;
           within = omega arith;
@@ -186,12 +160,12 @@ event-faults built p bs k b h pos c j =
           here = λ m _ _ _. omega arith;
         }
 
-    at-kind : k + 1 ≤ length bs → (ltb (get_or bs k 0) 13 && built (get_or bs k 0)) ≡ false → FaultAt built p bs k k
-    at-kind l off =
+    at-kind : (e : Event) × Sent built p e → k + 1 ≤ length bs → (ltb (get_or bs k 0) 13 && built (get_or bs k 0)) ≡ false → FaultAt built p bs k k
+    at-kind e0 l off =
         let z : k - k ≡ 0 = omega arith in
         record {
           from = omega arith;
-          within = h;
+          within = omega arith;
           before = (e0.0, e0.1, (encode e0.0, ap (λ n. take n (drop k bs) ++ encode e0.0) z));
           here = λ m e s w.
               let v = view p e s.0 in
@@ -206,8 +180,8 @@ event-faults built p bs k b h pos c j =
               both_ways (ltb g 13 && built g) off on;
         }
 
-    inside : k + 1 ≤ length bs → (ltb (get_or bs k 0) 13 ≡ true) × (built (get_or bs k 0) ≡ true) → AllBad p (event_format (get_or bs k 0)).fields bs k 1 j → FaultAt built p bs k j
-    inside l on d =
+    fault : (j : ℕ) → k + 1 ≤ length bs → (ltb (get_or bs k 0) 13 ≡ true) × (built (get_or bs k 0) ≡ true) → AllBad p (event_format (get_or bs k 0)).fields bs k 1 j → FaultAt built p bs k j
+    fault j l on d =
         let g = get_or bs k 0 in
         let fs = (event_format g).fields in
         let vs = d.before.0 in
@@ -223,11 +197,8 @@ event-faults built p bs k b h pos c j =
           );
           here = λ m e s w.
               let v = view p e s.0 in
-              let z1 : suc (j - k) ≡ suc j - k = omega (arith, d.from) in
-              let z2 : suc j - (k + 1) ≡ suc (j - (k + 1)) = omega (arith, d.from) in
               let rest = take (suc (j - (k + 1))) (drop (k + 1) bs) in
-              let f : take (suc (j - k)) (drop k bs) ≡ g ∷ rest =
-              ap (λ n. take n (drop k bs)) z1 ∙ front (suc j) l (omega (arith, d.from)) ∙ ap (λ n. g ∷ take n (drop (k + 1) bs)) z2 in
+              let f = past_one bs (g ∷ []) k (k + 1) j refl (one_more bs k (k + 1) (omega arith) refl) d.from in
               let e1 : g ∷ (rest ++ w.0) ≡ v.q ∷ bytes (event_format v.q).fields v.values = sym (ap (λ t. t ++ w.0) f) ∙ w.1 ∙ v.spelt in
               let same : g ≡ v.q = heads g v.q (rest ++ w.0) (bytes (event_format v.q).fields v.values) e1 in
               let P : ℕ → Type 0 = λ q. AllBad p (event_format q).fields bs k 1 j in
@@ -235,13 +206,18 @@ event-faults built p bs k b h pos c j =
               (subst P same d).here m v.values w.0 [] v.fits (tails ∙ sym (append-nil (bytes (event_format v.q).fields v.values)));
         }
 
+    inside : k + 1 ≤ length bs → (ltb (get_or bs k 0) 13 ≡ true) × (built (get_or bs k 0) ≡ true) → (x : Found Event) →
+        AllTell p (event_format (get_or bs k 0)).fields (event_format (get_or bs k 0)).says bs k 1 x → Tells built p bs k x
+    inside l on (Ok r) a = was r l on a
+    inside l on (Err j) a = λ h pos c. fault j l on (a pos)
+
 -- a call that is short enough
 short : (built : ℕ → Bool) (p : ℕ) (bs : List ℕ) (k : ℕ) → length bs < 4294967296 → read_event built p bs k ≡ decode_event built p bs k
 short built p bs k l = ap (λ b. pick b (Err 4294967295) (decode_event built p bs k)) (lt-leb 4294967296 (length bs) l)
 
 pub read-was : (built : ℕ → Bool) (p : ℕ) (bs : List ℕ) (k : ℕ) → Bytes bs → (r : Event × ℕ) → read_event built p bs k ≡ Ok r → Was built p bs k r
 read-was built p bs k b r =
-    by-pick (leb 4294967296 (length bs)) _ _ (λ x. x ≡ Ok r → Was built p bs k r) (λ _ q. absurd (err-not-ok r 4294967295 q)) (λ _ q. event-only built p bs k b r q)
+    by-pick (leb 4294967296 (length bs)) _ _ (λ x. x ≡ Ok r → Was built p bs k r) (λ _ q. absurd (err-not-ok r 4294967295 q)) (λ _ q. subst (Tells built p bs k) q (event-tells built p bs k b))
 
 pub reads-back : ReadsBack
 unfolding ReadsBack
@@ -260,7 +236,7 @@ pub faults-first : FaultsFirst
 unfolding FaultsFirst
 faults-first built p bs k j b l h pos c q =
     let d = sym (short built p bs k l) ∙ q in
-    let f = event-faults built p bs k b h pos c j d in
+    let f = subst (Tells built p bs k) d (event-tells built p bs k b) h pos c in
     record {
       from = f.from;
       within = f.within;

@@ -1,13 +1,13 @@
--- A fault in a field is at the first byte that no such field has.
-use Rattle.std.proofs.Common.{◌≡◌, ℕ, zero, suc, ◌+◌, ◌-◌, ◌*◌, ◌^◌, ◌<◌, ◌≤◌, Bool, true, false, eqb, ltb, List, [], ◌∷◌, ◌++◌, length, get_or, take, drop, replicate, Err, sym, ap, ◌∙◌, subst, pow-suc, arith}
-use Rattle.std.proofs.lemmas.Bool.{ltb-false, eqb-false}
+-- What is read of a field is spelled so, and a fault in it is at the first byte that no such field has.
+use Rattle.std.proofs.Common.{◌≡◌, ℕ, zero, suc, ◌+◌, ◌-◌, ◌*◌, ◌^◌, ◌<◌, ◌≤◌, Bool, true, false, eqb, ltb, List, [], ◌∷◌, ◌++◌, length, get_or, take, drop, replicate, Ok, Err, sym, refl, ap, ◌∙◌, pow-suc, arith}
+use Rattle.std.proofs.lemmas.Bool.{ltb-true, ltb-false, eqb-true, eqb-false}
 use Rattle.std.proofs.lemmas.List.{append_assoc, length-append, length-drop, length-replicate, take_all, take_rest, drop_all, drop_more}
-use Rattle.protocol.specs.Fields.{Bytes, Field, program, byte, plain, near, far, mark, only, row, Says, spell, field, marked, number, numbers, digits, all_digits, signed}
+use Rattle.protocol.specs.Fields.{Bytes, Field, program, byte, plain, near, far, mark, only, row, Says, spell, field, Found, there, marked, number, numbers, digits, all_digits, signed}
 use Rattle.protocol.specs.Laws.{Row}
 use Rattle.protocol.proofs.Rows.{bytes_drop, bytes-tail, digits_number, number_small, length-numbers, numbers-small, all-digits-numbers}
 use Rattle.protocol.proofs.Signs.{stood-for}
-use Rattle.protocol.proofs.Tests.{err-same, ok-not-err, by-pick, by-there, some_more}
-use Rattle.protocol.proofs.FieldLaws.{Fit, near-from, far_from}
+use Rattle.protocol.proofs.Tests.{by-pick, by-there, some_more}
+use Rattle.protocol.proofs.FieldLaws.{Fit, Got, near-from, far_from, byte-got, width-got, row-got}
 
 -- up to the byte j there is a field that begins so, and with it there is none
 pub record Bad (p : ℕ) (f : Field) (bs : List ℕ) (k o j : ℕ) : Type 0 where
@@ -141,66 +141,61 @@ elements-missing p bs k o w h b l m =
     missing p (row w) bs k o h v t (omega (arith, number_small 2 xs (bytes_drop (k + o) bs b)), numbers-small w n zs bz)
     (ap (λ l. l ++ t) cut ∙ append_assoc (digits 2 n) ys t ∙ ap (λ l. digits 2 n ++ l) all ∙ ap (λ m. digits 2 m ++ all_digits w v) (sym lv))
 
-pub field-faults : (f : Field) (p : ℕ) (bs : List ℕ) (k o : ℕ) → k + o ≤ length bs → Bytes bs → 0 < p → (j : ℕ) → field f p bs k o ≡ Err j → Bad p f bs k o j
-field-faults program p bs k o h b pos j =
+-- What a reader's answer tells of a field.
+abbrev pub Tells : (p : ℕ) (f : Field) → List ℕ → ℕ → ℕ → Found (Says f) → Type 0
+Tells p f bs k o (Ok r) = Got p f bs k o r
+Tells p f bs k o (Err j) = 0 < p → Bad p f bs k o j
+
+-- where any w bytes are such a field
+width-tells : (f : Field) (p w : ℕ) (says : ℕ → Says f) → ((n : ℕ) → n < 256 ^ w → Fit p f (says n) × (digits w n ≡ spell f (says n))) →
+    (bs : List ℕ) (k o : ℕ) → k + o ≤ length bs → Bytes bs → Tells p f bs k o (there bs (k + (o + w)) (Ok (says (number w (drop (k + o) bs)), o + w)))
+width-tells f p w says all bs k o h b =
+    let xs = drop (k + o) bs in
+    let bx = bytes_drop (k + o) bs b in
+    by-there bs (k + (o + w)) _ (Tells p f bs k o)
+    (λ l. let g = all (number w xs) (number_small w xs bx) in width-got f p bs k o w l b (says (number w xs)) g.0 g.1)
+    (λ l. (λ _. let c = fill w xs (few-left bs k o w l) bx in let g = all c.0 c.2 in missing p f bs k o h (says c.0) c.1 g.0 (c.3 ∙ g.1)))
+
+pub field-tells : (f : Field) (p : ℕ) (bs : List ℕ) (k o : ℕ) → k + o ≤ length bs → Bytes bs → Tells p f bs k o (field f p bs k o)
+field-tells program p bs k o h b =
     let g = get_or bs (k + o) 0 in
-    by-there bs (k + (o + 1)) _ (λ x. x ≡ Err j → Bad p program bs k o j)
-    (λ l. by-pick (ltb g p) _ _ (λ x. x ≡ Err j → Bad p program bs k o j)
-    (λ _ q. absurd (ok-not-err _ j q))
-    (λ t q. subst (Bad p program bs k o) (err-same {A = ℕ} (k + o) j q)
-    (wrong p program bs k o l 0 pos (λ v s u fit e. omega (arith, heads g v s u e, ltb-false g p t, fit)))))
-    (λ l q. subst (Bad p program bs k o) (err-same {A = ℕ} (length bs) j q) (missing p program bs k o h 0 (0 ∷ []) pos (none_left bs k o 0 l)))
-field-faults byte p bs k o h b pos j =
-    by-there bs (k + (o + 1)) _ (λ x. x ≡ Err j → Bad p byte bs k o j)
-    (λ l q. absurd (ok-not-err _ j q))
-    (λ l q. subst (Bad p byte bs k o) (err-same {A = ℕ} (length bs) j q) (missing p byte bs k o h 0 (0 ∷ []) (omega arith) (none_left bs k o 0 l)))
-field-faults (plain w) p bs k o h b pos j =
-    by-there bs (k + (o + w)) _ (λ x. x ≡ Err j → Bad p (plain w) bs k o j)
-    (λ l q. absurd (ok-not-err _ j q))
-    (λ l q.
-    let c = fill w (drop (k + o) bs) (few-left bs k o w l) (bytes_drop (k + o) bs b) in
-    subst (Bad p (plain w) bs k o) (err-same {A = ℕ} (length bs) j q) (missing p (plain w) bs k o h c.0 c.1 c.2 c.3))
-field-faults near p bs k o h b pos j =
-    by-there bs (k + (o + 2)) _ (λ x. x ≡ Err j → Bad p near bs k o j)
-    (λ l q. absurd (ok-not-err _ j q))
-    (λ l q.
-    let c = fill 2 (drop (k + o) bs) (few-left bs k o 2 l) (bytes_drop (k + o) bs b) in
-    let s = stood-for 32768 c.0 c.2 in
-    subst (Bad p near bs k o) (err-same {A = Says near} (length bs) j q)
-    (missing p near bs k o h (signed 32768 c.0) c.1 (near-from (signed 32768 c.0) s.1 s.2) (c.3 ∙ ap (digits 2) (sym s.0))))
-field-faults far p bs k o h b pos j =
-    by-there bs (k + (o + 4)) _ (λ x. x ≡ Err j → Bad p far bs k o j)
-    (λ l q. absurd (ok-not-err _ j q))
-    (λ l q.
-    let c = fill 4 (drop (k + o) bs) (few-left bs k o 4 l) (bytes_drop (k + o) bs b) in
-    let s = stood-for 2147483648 c.0 c.2 in
-    subst (Bad p far bs k o) (err-same {A = Says far} (length bs) j q)
-    (missing p far bs k o h (signed 2147483648 c.0) c.1 (far_from (signed 2147483648 c.0) s.1 s.2) (c.3 ∙ ap (digits 4) (sym s.0))))
-field-faults mark p bs k o h b pos j =
+    by-there bs (k + (o + 1)) _ (Tells p program bs k o)
+    (λ l. by-pick (ltb g p) _ _ (Tells p program bs k o)
+    (λ t. byte-got program p bs k o l g (ltb-true g p t) refl)
+    (λ t. (λ pos. wrong p program bs k o l 0 pos (λ v s u fit e. omega (arith, heads g v s u e, ltb-false g p t, fit)))))
+    (λ l. (λ pos. missing p program bs k o h 0 (0 ∷ []) pos (none_left bs k o 0 l)))
+field-tells byte p bs k o h b =
+    by-there bs (k + (o + 1)) _ (Tells p byte bs k o)
+    (λ l. byte-got byte p bs k o l (get_or bs (k + o) 0) (b (k + o)) refl)
+    (λ l. (λ _. missing p byte bs k o h 0 (0 ∷ []) (omega arith) (none_left bs k o 0 l)))
+field-tells (plain w) p bs k o h b = width-tells (plain w) p w (λ n. n) (λ n l. (l, refl)) bs k o h b
+field-tells near p bs k o h b =
+    width-tells near p 2 (signed 32768) (λ n l. let s = stood-for 32768 n l in (near-from (signed 32768 n) s.1 s.2, ap (digits 2) (sym s.0))) bs k o h b
+field-tells far p bs k o h b =
+    width-tells far p 4 (signed 2147483648) (λ n l. let s = stood-for 2147483648 n l in (far_from (signed 2147483648 n) s.1 s.2, ap (digits 4) (sym s.0))) bs k o h b
+field-tells mark p bs k o h b =
     let g = get_or bs (k + o) 0 in
-    by-there bs (k + (o + 1)) _ (λ x. x ≡ Err j → Bad p mark bs k o j)
-    (λ l. by-pick (eqb g 0) _ _ (λ x. x ≡ Err j → Bad p mark bs k o j)
-    (λ _ q. absurd (ok-not-err _ j q))
-    (λ t0. by-pick (eqb g 1) _ _ (λ x. x ≡ Err j → Bad p mark bs k o j)
-    (λ _ q. absurd (ok-not-err _ j q))
-    (λ t1 q. subst (Bad p mark bs k o) (err-same {A = Bool} (k + o) j q)
-    (wrong p mark bs k o l false tt (λ v s u fit e. no-mark g v (heads g (marked v) s u e) (eqb-false g 0 t0) (eqb-false g 1 t1))))))
-    (λ l q. subst (Bad p mark bs k o) (err-same {A = Bool} (length bs) j q) (missing p mark bs k o h false (0 ∷ []) tt (none_left bs k o 0 l)))
+    by-there bs (k + (o + 1)) _ (Tells p mark bs k o)
+    (λ l. by-pick (eqb g 0) _ _ (Tells p mark bs k o)
+    (λ t. byte-got mark p bs k o l false tt (ap (λ v. v ∷ []) (eqb-true g 0 t)))
+    (λ t0. by-pick (eqb g 1) _ _ (Tells p mark bs k o)
+    (λ t. byte-got mark p bs k o l true tt (ap (λ v. v ∷ []) (eqb-true g 1 t)))
+    (λ t1. (λ _. wrong p mark bs k o l false tt (λ v s u fit e. no-mark g v (heads g (marked v) s u e) (eqb-false g 0 t0) (eqb-false g 1 t1))))))
+    (λ l. (λ _. missing p mark bs k o h false (0 ∷ []) tt (none_left bs k o 0 l)))
   where
     no-mark : (g : ℕ) (v : Bool) → g ≡ marked v → (g ≡ 0 → ⊥) → (g ≡ 1 → ⊥) → ⊥
     no-mark g true e a c = c e
     no-mark g false e a c = a e
-field-faults (only c) p bs k o h b pos j =
+field-tells (only c) p bs k o h b =
     let g = get_or bs (k + o) 0 in
-    by-there bs (k + (o + 1)) _ (λ x. x ≡ Err j → Bad p (only c) bs k o j)
-    (λ l. by-pick (eqb g c) _ _ (λ x. x ≡ Err j → Bad p (only c) bs k o j)
-    (λ _ q. absurd (ok-not-err _ j q))
-    (λ t q. subst (Bad p (only c) bs k o) (err-same {A = Says (only c)} (k + o) j q)
-    (wrong p (only c) bs k o l tt tt (λ v s u fit e. eqb-false g c t (heads g c s u e)))))
-    (λ l q. subst (Bad p (only c) bs k o) (err-same {A = Says (only c)} (length bs) j q) (missing p (only c) bs k o h tt (c ∷ []) tt (none_left bs k o c l)))
-field-faults (row w) p bs k o h b pos j =
-    by-there bs (k + (o + 2)) _ (λ x. x ≡ Err j → Bad p (row w) bs k o j)
-    (λ l. by-there bs (k + (o + 2 + w * number 2 (drop (k + o) bs))) _ (λ x. x ≡ Err j → Bad p (row w) bs k o j)
-    (λ _ q. absurd (ok-not-err _ j q))
-    (λ m q. subst (Bad p (row w) bs k o) (err-same {A = List ℕ} (length bs) j q) (elements-missing p bs k o w h b l m)))
-    (λ l q. subst (Bad p (row w) bs k o) (err-same {A = List ℕ} (length bs) j q) (count-missing p bs k o w h b l))
+    by-there bs (k + (o + 1)) _ (Tells p (only c) bs k o)
+    (λ l. by-pick (eqb g c) _ _ (Tells p (only c) bs k o)
+    (λ t. byte-got (only c) p bs k o l tt tt (ap (λ v. v ∷ []) (eqb-true g c t)))
+    (λ t. (λ _. wrong p (only c) bs k o l tt tt (λ v s u fit e. eqb-false g c t (heads g c s u e)))))
+    (λ l. (λ _. missing p (only c) bs k o h tt (c ∷ []) tt (none_left bs k o c l)))
+field-tells (row w) p bs k o h b =
+    by-there bs (k + (o + 2)) _ (Tells p (row w) bs k o)
+    (λ l. by-there bs (k + (o + 2 + w * number 2 (drop (k + o) bs))) _ (Tells p (row w) bs k o)
+    (λ m. row-got p bs k o w l m b)
+    (λ m. (λ _. elements-missing p bs k o w h b l m)))
+    (λ l. (λ _. count-missing p bs k o w h b l))

@@ -1,13 +1,13 @@
 -- Each kind of field: what is spelled is read, what is read is spelled so, and a fault is at the first byte that no such field has.
-use Rattle.std.proofs.Common.{◌≡◌, ℕ, ◌+◌, ◌*◌, ◌^◌, ◌<◌, ◌≤◌, true, false, eqb, ltb, List, [], ◌∷◌, ◌++◌, length, get_or, take, drop, ℤ, pos, neg_ℤ, ◌≤ℤ◌, ◌<ℤ◌, Ok, sym, refl, ap, ◌∙◌, subst, arith}
+use Rattle.std.proofs.Common.{◌≡◌, ℕ, ◌+◌, ◌*◌, ◌^◌, ◌<◌, ◌≤◌, true, false, List, [], ◌∷◌, ◌++◌, length, get_or, take, drop, ℤ, pos, neg_ℤ, ◌≤ℤ◌, ◌<ℤ◌, Ok, sym, refl, ap, ◌∙◌, arith}
 use Rattle.std.proofs.lemmas.Int.{ints}
-use Rattle.std.proofs.lemmas.Bool.{le-ltb, lt-ltb, eq-eqb, ltb-true, eqb-true}
+use Rattle.std.proofs.lemmas.Bool.{le-ltb, lt-ltb, eq-eqb}
 use Rattle.std.proofs.lemmas.List.{length-drop}
-use Rattle.protocol.specs.Fields.{Bytes, Field, program, byte, plain, near, far, mark, only, row, Says, spell, field, number, numbers, digits, all_digits, signed, unsigned}
+use Rattle.protocol.specs.Fields.{Bytes, Field, program, byte, plain, near, far, mark, only, row, Says, spell, field, number, numbers, digits, all_digits, unsigned}
 use Rattle.protocol.specs.Laws.{Near, Far, Row}
 use Rattle.protocol.proofs.Rows.{bytes_drop, length_digits, number_digits, digits_number, number_small, length-numbers, numbers-small, length-all-digits, numbers-all-digits, all-digits-numbers}
-use Rattle.protocol.proofs.Signs.{stands-for, stood-for}
-use Rattle.protocol.proofs.Tests.{ok_same, err-not-ok, by-pick, by-there, ends-within, goes_on, stands, one_more, some_more}
+use Rattle.protocol.proofs.Signs.{stands-for}
+use Rattle.protocol.proofs.Tests.{ends-within, goes_on, stands, one_more, some_more}
 
 -- what a field can say, where there are p programs
 abbrev pub Fit : ℕ → (f : Field) → Says f → Type 0
@@ -90,7 +90,7 @@ pub record Got (p : ℕ) (f : Field) (bs : List ℕ) (k o : ℕ) (r : Says f × 
   pub spelt : drop (k + o) bs ≡ spell f r.0 ++ drop (k + r.1) bs
 
 -- so many bytes of a row
-bytes-spelt : (bs : List ℕ) (k o w : ℕ) → k + (o + w) ≤ length bs → Bytes bs → drop (k + o) bs ≡ digits w (number w (drop (k + o) bs)) ++ drop (k + (o + w)) bs
+pub bytes-spelt : (bs : List ℕ) (k o w : ℕ) → k + (o + w) ≤ length bs → Bytes bs → drop (k + o) bs ≡ digits w (number w (drop (k + o) bs)) ++ drop (k + (o + w)) bs
 bytes-spelt bs k o w l b =
     let m : w ≤ length (drop (k + o) bs) = simp length-drop (omega arith) in
     some_more bs (k + o) w (k + (o + w)) (omega arith)
@@ -99,104 +99,42 @@ bytes-spelt bs k o w l b =
 byte-spelt : (bs : List ℕ) (k o : ℕ) → k + (o + 1) ≤ length bs → drop (k + o) bs ≡ get_or bs (k + o) 0 ∷ drop (k + (o + 1)) bs
 byte-spelt bs k o l = one_more bs (k + o) (k + (o + 1)) (omega arith) (omega arith)
 
-pub field-only : (f : Field) (p : ℕ) (bs : List ℕ) (k o : ℕ) → k + o ≤ length bs → Bytes bs → (r : Says f × ℕ) → field f p bs k o ≡ Ok r → Got p f bs k o r
+-- a field of one byte
+pub byte-got : (f : Field) (p : ℕ) (bs : List ℕ) (k o : ℕ) → k + (o + 1) ≤ length bs → (v : Says f) → Fit p f v → get_or bs (k + o) 0 ∷ [] ≡ spell f v → Got p f bs k o (v, o + 1)
+byte-got f p bs k o l v fit e =
+    record { fits = fit; size = ap (λ t. o + length t) e; within = l; spelt = byte-spelt bs k o l ∙ ap (λ t. t ++ drop (k + (o + 1)) bs) e }
+
+-- a field of w bytes
+pub width-got : (f : Field) (p : ℕ) (bs : List ℕ) (k o w : ℕ) → k + (o + w) ≤ length bs → Bytes bs → (v : Says f) → Fit p f v → digits w (number w (drop (k + o) bs)) ≡ spell f v →
+    Got p f bs k o (v, o + w)
+width-got f p bs k o w l b v fit e =
+    record {
+      fits = fit;
+      size = ap (λ m. o + m) (sym (length_digits w (number w (drop (k + o) bs)))) ∙ ap (λ t. o + length t) e;
+      within = l;
+      spelt = bytes-spelt bs k o w l b ∙ ap (λ t. t ++ drop (k + (o + w)) bs) e;
+    }
+
+pub row-got : (p : ℕ) (bs : List ℕ) (k o w : ℕ) → k + (o + 2) ≤ length bs → k + (o + 2 + w * number 2 (drop (k + o) bs)) ≤ length bs → Bytes bs →
+    Got p (row w) bs k o (numbers w (number 2 (drop (k + o) bs)) (drop (k + (o + 2)) bs), o + 2 + w * number 2 (drop (k + o) bs))
 unfolding Row
-field-only program p bs k o h b r =
-    by-there bs (k + (o + 1)) _ (λ x. x ≡ Ok r → Got p program bs k o r)
-    (λ l. by-pick (ltb (get_or bs (k + o) 0) p) _ _ (λ x. x ≡ Ok r → Got p program bs k o r)
-    (λ t q. subst (Got p program bs k o) (ok_same (get_or bs (k + o) 0, o + 1) r q)
-    (record { fits = ltb-true (get_or bs (k + o) 0) p t; size = refl; within = l; spelt = byte-spelt bs k o l }))
-    (λ t q. absurd (err-not-ok r (k + o) q)))
-    (λ l q. absurd (err-not-ok r (length bs) q))
-field-only byte p bs k o h b r =
-    by-there bs (k + (o + 1)) _ (λ x. x ≡ Ok r → Got p byte bs k o r)
-    (λ l q. subst (Got p byte bs k o) (ok_same (get_or bs (k + o) 0, o + 1) r q)
-    (record { fits = b (k + o); size = refl; within = l; spelt = byte-spelt bs k o l }))
-    (λ l q. absurd (err-not-ok r (length bs) q))
-field-only (plain w) p bs k o h b r =
-    by-there bs (k + (o + w)) _ (λ x. x ≡ Ok r → Got p (plain w) bs k o r)
-    (λ l q. subst (Got p (plain w) bs k o) (ok_same (number w (drop (k + o) bs), o + w) r q)
-    (record {
-      fits = number_small w (drop (k + o) bs) (bytes_drop (k + o) bs b);
-      size = ap (λ m. o + m) (sym (length_digits w (number w (drop (k + o) bs))));
-      within = l;
-      spelt = bytes-spelt bs k o w l b;
-    }))
-    (λ l q. absurd (err-not-ok r (length bs) q))
-field-only near p bs k o h b r =
-    let n = number 2 (drop (k + o) bs) in
-    let s = stood-for 32768 n (number_small 2 (drop (k + o) bs) (bytes_drop (k + o) bs b)) in
-    by-there bs (k + (o + 2)) _ (λ x. x ≡ Ok r → Got p near bs k o r)
-    (λ l q. subst (Got p near bs k o) (ok_same (signed 32768 n, o + 2) r q)
-    (record {
-      fits = near-from (signed 32768 n) s.1 s.2;
-      size = refl;
-      within = l;
-      spelt = bytes-spelt bs k o 2 l b ∙ ap (λ u. digits 2 u ++ drop (k + (o + 2)) bs) (sym s.0);
-    }))
-    (λ l q. absurd (err-not-ok r (length bs) q))
-field-only far p bs k o h b r =
-    let n = number 4 (drop (k + o) bs) in
-    let s = stood-for 2147483648 n (number_small 4 (drop (k + o) bs) (bytes_drop (k + o) bs b)) in
-    by-there bs (k + (o + 4)) _ (λ x. x ≡ Ok r → Got p far bs k o r)
-    (λ l q. subst (Got p far bs k o) (ok_same (signed 2147483648 n, o + 4) r q)
-    (record {
-      fits = far_from (signed 2147483648 n) s.1 s.2;
-      size = refl;
-      within = l;
-      spelt = bytes-spelt bs k o 4 l b ∙ ap (λ u. digits 4 u ++ drop (k + (o + 4)) bs) (sym s.0);
-    }))
-    (λ l q. absurd (err-not-ok r (length bs) q))
-field-only mark p bs k o h b r =
-    let g = get_or bs (k + o) 0 in
-    by-there bs (k + (o + 1)) _ (λ x. x ≡ Ok r → Got p mark bs k o r)
-    (λ l. by-pick (eqb g 0) _ _ (λ x. x ≡ Ok r → Got p mark bs k o r)
-    (λ t q. subst (Got p mark bs k o) (ok_same (false, o + 1) r q)
-    (record { fits = tt; size = refl; within = l; spelt = byte-spelt bs k o l ∙ ap (λ v. v ∷ drop (k + (o + 1)) bs) (eqb-true g 0 t) }))
-    (λ _. by-pick (eqb g 1) _ _ (λ x. x ≡ Ok r → Got p mark bs k o r)
-    (λ t q. subst (Got p mark bs k o) (ok_same (true, o + 1) r q)
-    (record { fits = tt; size = refl; within = l; spelt = byte-spelt bs k o l ∙ ap (λ v. v ∷ drop (k + (o + 1)) bs) (eqb-true g 1 t) }))
-    (λ t q. absurd (err-not-ok r (k + o) q))))
-    (λ l q. absurd (err-not-ok r (length bs) q))
-field-only (only c) p bs k o h b r =
-    let g = get_or bs (k + o) 0 in
-    by-there bs (k + (o + 1)) _ (λ x. x ≡ Ok r → Got p (only c) bs k o r)
-    (λ l. by-pick (eqb g c) _ _ (λ x. x ≡ Ok r → Got p (only c) bs k o r)
-    (λ t q. subst (Got p (only c) bs k o) (ok_same (tt, o + 1) r q)
-    (record { fits = tt; size = refl; within = l; spelt = byte-spelt bs k o l ∙ ap (λ v. v ∷ drop (k + (o + 1)) bs) (eqb-true g c t) }))
-    (λ t q. absurd (err-not-ok r (k + o) q)))
-    (λ l q. absurd (err-not-ok r (length bs) q))
-field-only (row w) p bs k o h b r =
+row-got p bs k o w l l2 b =
     let xs = drop (k + o) bs in
     let n = number 2 xs in
     let ys = drop (k + (o + 2)) bs in
     let v = numbers w n ys in
-    by-there bs (k + (o + 2)) _ (λ x. x ≡ Ok r → Got p (row w) bs k o r)
-    (λ l. by-there bs (k + (o + 2 + w * n)) _ (λ x. x ≡ Ok r → Got p (row w) bs k o r)
-    (λ l2 q. subst (Got p (row w) bs k o) (ok_same (v, o + 2 + w * n) r q)
-    (row-got p bs k o w l l2 b))
-    (λ _ q. absurd (err-not-ok r (length bs) q)))
-    (λ l q. absurd (err-not-ok r (length bs) q))
-  where
-    row-got : (p : ℕ) (bs : List ℕ) (k o w : ℕ) → k + (o + 2) ≤ length bs → k + (o + 2 + w * number 2 (drop (k + o) bs)) ≤ length bs → Bytes bs →
-        Got p (row w) bs k o (numbers w (number 2 (drop (k + o) bs)) (drop (k + (o + 2)) bs), o + 2 + w * number 2 (drop (k + o) bs))
-    row-got p bs k o w l l2 b =
-        let xs = drop (k + o) bs in
-        let n = number 2 xs in
-        let ys = drop (k + (o + 2)) bs in
-        let v = numbers w n ys in
-        let to = o + 2 + w * n in
-        let small = number_small 2 xs (bytes_drop (k + o) bs b) in
-        let lv : length v ≡ n = length-numbers w n ys in
-        let la = length-all-digits w v in
-        let lw : w * length v ≡ w * n = ap (λ m. w * m) lv in
-        let ly : w * n ≤ length ys = simp length-drop (omega arith) in
-        let all : all_digits w v ≡ take (w * n) ys = all-digits-numbers w n ys ly (bytes_drop (k + (o + 2)) bs b) in
-        let rest : ys ≡ all_digits w v ++ drop (k + to) bs =
-        some_more bs (k + (o + 2)) (w * n) (k + to) (omega arith) ∙ ap (λ t. t ++ drop (k + to) bs) (sym all) in
-        record {
-          fits = (omega arith, numbers-small w n ys (bytes_drop (k + (o + 2)) bs b));
-          size = omega arith;
-          within = l2;
-          spelt = bytes-spelt bs k o 2 l b ∙ ap (λ t. digits 2 n ++ t) rest ∙ ap (λ m. digits 2 m ++ (all_digits w v ++ drop (k + to) bs)) (sym lv);
-        }
+    let to = o + 2 + w * n in
+    let small = number_small 2 xs (bytes_drop (k + o) bs b) in
+    let lv : length v ≡ n = length-numbers w n ys in
+    let la = length-all-digits w v in
+    let lw : w * length v ≡ w * n = ap (λ m. w * m) lv in
+    let ly : w * n ≤ length ys = simp length-drop (omega arith) in
+    let all : all_digits w v ≡ take (w * n) ys = all-digits-numbers w n ys ly (bytes_drop (k + (o + 2)) bs b) in
+    let rest : ys ≡ all_digits w v ++ drop (k + to) bs =
+    some_more bs (k + (o + 2)) (w * n) (k + to) (omega arith) ∙ ap (λ t. t ++ drop (k + to) bs) (sym all) in
+    record {
+      fits = (omega arith, numbers-small w n ys (bytes_drop (k + (o + 2)) bs b));
+      size = omega arith;
+      within = l2;
+      spelt = bytes-spelt bs k o 2 l b ∙ ap (λ t. digits 2 n ++ t) rest ∙ ap (λ m. digits 2 m ++ (all_digits w v ++ drop (k + to) bs)) (sym lv);
+    }

@@ -1,6 +1,5 @@
 pub mod Adding
 pub mod Digits
-mod Ends
 pub mod EventLaws
 mod FieldFaults
 mod FieldLaws

@@ -1,11 +1,11 @@
 -- Fields one after another: what is spelled is read, what is read is spelled so, and a fault is at the first byte that no such fields have.
-use Rattle.std.proofs.Common.{◌≡◌, ℕ, suc, ◌+◌, ◌-◌, ◌<◌, ◌≤◌, List, [], ◌∷◌, ◌++◌, length, take, drop, Ok, Err, sym, refl, ap, ◌∙◌, subst, arith}
+use Rattle.std.proofs.Common.{◌≡◌, ℕ, suc, ◌+◌, ◌-◌, ◌<◌, ◌≤◌, List, [], ◌∷◌, ◌++◌, length, take, drop, Ok, Err, sym, refl, ap, ◌∙◌, arith}
 use lib.Seq.{take-append-add}
 use Rattle.std.proofs.lemmas.List.{append_assoc, append_cancel_left, length-append}
-use Rattle.protocol.specs.Fields.{Bytes, Field, Says, spell, field, From, then, decode}
-use Rattle.protocol.proofs.Tests.{ok_same, err-same, ok-not-err, err-not-ok, by-then, ends-within, goes_on}
-use Rattle.protocol.proofs.FieldLaws.{Fit, field-reads, Got, field-only}
-use Rattle.protocol.proofs.FieldFaults.{Bad, some, some_fits, field-faults}
+use Rattle.protocol.specs.Fields.{Bytes, Field, Says, spell, field, From, Found, then, decode}
+use Rattle.protocol.proofs.Tests.{ok_same, ends-within, goes_on}
+use Rattle.protocol.proofs.FieldLaws.{Fit, field-reads, Got}
+use Rattle.protocol.proofs.FieldFaults.{Bad, some, some_fits, Tells, field-tells}
 
 -- what several fields say, all at once
 abbrev pub Values : List Field → Type 0
@@ -48,25 +48,6 @@ pub record AllGot {A : Type 0} (p : ℕ) (fs : List Field) (m : From fs A) (bs :
   pub within : r.1 ≤ length bs
   pub spelt : drop (k + o) bs ≡ bytes fs values ++ drop r.1 bs
 
-pub all-only : {A : Type 0} (fs : List Field) (m : From fs A) (p : ℕ) (bs : List ℕ) (k o : ℕ) → k + o ≤ length bs → Bytes bs → (r : A × ℕ) → decode fs m p bs k o ≡ Ok r →
-    AllGot p fs m bs k o r
-all-only [] m p bs k o h b r q =
-    subst (AllGot p [] m bs k o) (ok_same (m, k + o) r q) (record { values = tt; fits = tt; is = refl; from = omega arith; within = h; spelt = refl })
-all-only (f ∷ fs) m p bs k o h b r whole =
-    by-then (field f p bs k o) (λ v to. decode fs (m v) p bs k to) (λ x. x ≡ Ok r → AllGot p (f ∷ fs) m bs k o r)
-    (λ y e q.
-    let g = field-only f p bs k o h b y e in
-    let a = all-only fs (m y.0) p bs k y.1 g.within b r q in
-    record {
-      values = (y.0, a.values);
-      fits = (g.fits, a.fits);
-      is = a.is;
-      from = omega (arith, g.size, a.from);
-      within = a.within;
-      spelt = g.spelt ∙ ap (λ t. spell f y.0 ++ t) a.spelt ∙ sym (append_assoc (spell f y.0) (bytes fs a.values) (drop r.1 bs));
-    })
-    (λ j _ q. absurd (err-not-ok r j q)) whole
-
 -- fields that say anything
 pub some-all : (fs : List Field) (p : ℕ) → 0 < p → (vs : Values fs) × Fits p fs vs
 some-all [] p h = (tt, tt)
@@ -92,15 +73,32 @@ past bs xs i to n l e h =
     let z : n - i ≡ length xs + (n - to) = omega arith in
     ap (λ m. take m (drop i bs)) z ∙ ap (take (length xs + (n - to))) e ∙ take-append-add xs (drop to bs) (n - to)
 
-pub all-faults : {A : Type 0} (fs : List Field) (m : From fs A) (p : ℕ) (bs : List ℕ) (k o : ℕ) → k + o ≤ length bs → Bytes bs → 0 < p → (j : ℕ) → decode fs m p bs k o ≡ Err j → AllBad p fs bs k o j
-all-faults [] m p bs k o h b pos j q = absurd (ok-not-err (m, k + o) j q)
-all-faults (f ∷ fs) m p bs k o h b pos j whole =
-    by-then (field f p bs k o) (λ v to. decode fs (m v) p bs k to) (λ x. x ≡ Err j → AllBad p (f ∷ fs) bs k o j)
-    (λ y e q. later y (field-only f p bs k o h b y e) (all-faults fs (m y.0) p bs k y.1 (field-only f p bs k o h b y e).within b pos j q))
-    (λ i e q. subst (AllBad p (f ∷ fs) bs k o) (err-same i j q) (first i (field-faults f p bs k o h b pos i e))) whole
+-- and one byte more
+pub past_one : (bs xs : List ℕ) (i to j : ℕ) → to ≡ i + length xs → drop i bs ≡ xs ++ drop to bs → to ≤ j → take (suc (j - i)) (drop i bs) ≡ xs ++ take (suc (j - to)) (drop to bs)
+past_one bs xs i to j l e h =
+    let z : suc (j - i) ≡ suc j - i = omega arith in
+    let z2 : suc j - to ≡ suc (j - to) = omega arith in
+    ap (λ n. take n (drop i bs)) z ∙ past bs xs i to (suc j) l e (omega arith) ∙ ap (λ n. xs ++ take n (drop to bs)) z2
+
+-- what a reader's answer tells of them
+abbrev pub AllTell : {A : Type 0} (p : ℕ) (fs : List Field) → From fs A → List ℕ → ℕ → ℕ → Found A → Type 0
+AllTell p fs m bs k o (Ok r) = AllGot p fs m bs k o r
+AllTell p fs m bs k o (Err j) = 0 < p → AllBad p fs bs k o j
+
+by-tells : {A : Type 0} (p : ℕ) (f : Field) (bs : List ℕ) (k o : ℕ) (x : Found (Says f)) → Tells p f bs k o x → (g : Says f → ℕ → Found A) (P : Found A → Type 0) →
+    ((y : Says f × ℕ) → Got p f bs k o y → P (g y.0 y.1)) → ((j : ℕ) → (0 < p → Bad p f bs k o j) → P (Err j)) → P (then x g)
+by-tells p f bs k o (Ok y) t g P a c = a y t
+by-tells p f bs k o (Err j) t g P a c = c j t
+
+pub all-tell : (A : Type 0) (fs : List Field) (m : From fs A) (p : ℕ) (bs : List ℕ) (k o : ℕ) → k + o ≤ length bs → Bytes bs → AllTell {A = A} p fs m bs k o (decode {A = A} fs m p bs k o)
+all-tell A [] m p bs k o h b = record { values = tt; fits = tt; is = refl; from = omega arith; within = h; spelt = refl }
+all-tell A (f ∷ fs) m p bs k o h b =
+    by-tells p f bs k o (field f p bs k o) (field-tells f p bs k o h b) (λ v to. decode {A = A} fs (m v) p bs k to) (AllTell {A = A} p (f ∷ fs) m bs k o)
+    (λ y g. onward y g (decode {A = A} fs (m y.0) p bs k y.1) (all-tell A fs (m y.0) p bs k y.1 g.within b))
+    (λ j d pos. first j pos (d pos))
   where
-    first : (i : ℕ) → Bad p f bs k o i → AllBad p (f ∷ fs) bs k o i
-    first i d =
+    first : (i : ℕ) → 0 < p → Bad p f bs k o i → AllBad p (f ∷ fs) bs k o i
+    first i pos d =
         let s = some-all fs p pos in
         let v = d.before.0 in
         let t = d.before.1 in
@@ -112,8 +110,8 @@ all-faults (f ∷ fs) m p bs k o h b pos j whole =
           here = λ l vs t u g e. d.here l vs.0 t (bytes fs vs.1 ++ u) g.0 (e ∙ append_assoc (spell f vs.0) (bytes fs vs.1) u);
         }
 
-    later : (y : Says f × ℕ) → Got p f bs k o y → AllBad p fs bs k y.1 j → AllBad p (f ∷ fs) bs k o j
-    later y g a =
+    later : (y : Says f × ℕ) (j : ℕ) → Got p f bs k o y → AllBad p fs bs k y.1 j → AllBad p (f ∷ fs) bs k o j
+    later y j g a =
         let v = y.0 in
         let xs = spell f v in
         let i = k + o in
@@ -128,10 +126,7 @@ all-faults (f ∷ fs) m p bs k o h b pos j whole =
           within = a.within;
           before = ((v, vs), t, (g.fits, a.before.2), ap (λ l. l ++ t) c ∙ append_assoc xs ys t ∙ ap (λ l. xs ++ l) a.before.3);
           here = λ l ws t u fit e.
-              let z : suc (j - i) ≡ suc j - i = omega (arith, a.from) in
-              let z2 : suc j - to ≡ suc (j - to) = omega (arith, a.from) in
-              let d : take (suc (j - i)) (drop i bs) ≡ xs ++ take (suc (j - to)) (drop to bs) =
-              ap (λ n. take n (drop i bs)) z ∙ past bs xs i to (suc j) lx g.spelt (omega (arith, a.from)) ∙ ap (λ n. xs ++ take n (drop to bs)) z2 in
+              let d = past_one bs xs i to j lx g.spelt a.from in
               let zs = take (suc (j - to)) (drop to bs) in
               let e1 : xs ++ (zs ++ t) ≡ spell f ws.0 ++ (bytes fs ws.1 ++ u) =
               sym (append_assoc xs zs t) ∙ ap (λ l. l ++ t) (sym d) ∙ e ∙ append_assoc (spell f ws.0) (bytes fs ws.1) u in
@@ -139,3 +134,15 @@ all-faults (f ∷ fs) m p bs k o h b pos j whole =
               let e2 : xs ++ (zs ++ t) ≡ xs ++ (bytes fs ws.1 ++ u) = e1 ∙ ap (λ s. spell f s ++ (bytes fs ws.1 ++ u)) (sym same) in
               a.here l ws.1 t u fit.1 (append_cancel_left xs (zs ++ t) (bytes fs ws.1 ++ u) e2);
         }
+
+    onward : (y : Says f × ℕ) → Got p f bs k o y → (x : Found A) → AllTell {A = A} p fs (m y.0) bs k y.1 x → AllTell {A = A} p (f ∷ fs) m bs k o x
+    onward y g (Ok r) a =
+        record {
+          values = (y.0, a.values);
+          fits = (g.fits, a.fits);
+          is = a.is;
+          from = omega (arith, g.size, a.from);
+          within = a.within;
+          spelt = g.spelt ∙ ap (λ t. spell f y.0 ++ t) a.spelt ∙ sym (append_assoc (spell f y.0) (bytes fs a.values) (drop r.1 bs));
+        }
+    onward y g (Err j) a = λ pos. later y j g (a pos)

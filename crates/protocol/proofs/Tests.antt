@@ -3,7 +3,7 @@ use Rattle.std.proofs.Common.{◌≡◌, ℕ, ◌+◌, ◌-◌, ◌<◌, ◌≤�
 use Rattle.std.proofs.lemmas.Bool.{ltb-true, ltb-false, le-ltb}
 use Rattle.std.proofs.lemmas.List.{length-append, length-drop, get_or-drop, drop-drop, drop_at, drop_more, take-append-drop, take_at}
 use Rattle.model.specs.Basics.{pick}
-use Rattle.protocol.specs.Fields.{Found, there, then}
+use Rattle.protocol.specs.Fields.{Found, there}
 
 pub ok_same : {A : Type 0} (x y : A × ℕ) → ◌≡◌ {A = Found A} (Ok x) (Ok y) → x ≡ y
 ok_same x y e = cc
@@ -29,10 +29,6 @@ there-ok bs to r h = rw (le-ltb (length bs) to h)
 pub by-there : {A : Type 0} (bs : List ℕ) (to : ℕ) (r : Found A) (P : Found A → Type 0) → (to ≤ length bs → P r) → (length bs < to → P (Err (length bs))) → P (there bs to r)
 by-there bs to r P f g =
     by-pick (ltb (length bs) to) (Err (length bs)) r P (λ e. g (ltb-true (length bs) to e)) (λ e. f (ltb-false (length bs) to e))
-
-pub by-then : {A B : Type 0} (x : Found A) (g : A → ℕ → Found B) (P : Found B → Type 0) → ((y : A × ℕ) → x ≡ Ok y → P (g y.0 y.1)) → ((j : ℕ) → x ≡ Err j → P (Err j)) → P (then x g)
-by-then (Ok y) g P f h = f y refl
-by-then (Err j) g P f h = h j refl
 
 -- a row's end, and what stands at a place of it
 pub ends-within : (bs xs t : List ℕ) (i : ℕ) → i ≤ length bs → drop i bs ≡ xs ++ t → i + length xs ≤ length bs

@@ -7,9 +7,9 @@ use Rattle.model.specs.Desk.{Word, no, done, made, at, pressed, typed, pasted}
 use Rattle.protocol.specs.Fields.{Bytes, Found}
 use Rattle.protocol.specs.Formats.{encode_word, word_format, decode_word_kind, decode_word, read_told, told}
 use Rattle.protocol.specs.Laws.{CarriedWord, spell_told, Told, Begins, ReadsWordBack, ReadsWordsOnly, WordFaultsFirst, WordFaultsWhereNone}
-use Rattle.protocol.proofs.Tests.{ok_same, err-same, ok-not-err, err-not-ok, by-pick, there-ok, by-there, ends-within, goes_on, stands, one_more, answer, size-read}
+use Rattle.protocol.proofs.Tests.{ok-not-err, err-not-ok, by-pick, there-ok, by-there, ends-within, goes_on, stands, one_more, answer, size-read}
 use Rattle.protocol.proofs.FieldFaults.{heads}
-use Rattle.protocol.proofs.Sequences.{Values, apply, bytes, Fits, all_read, AllGot, all-only, AllBad, past, all-faults}
+use Rattle.protocol.proofs.Sequences.{Values, apply, bytes, Fits, all_read, AllGot, AllBad, past, past_one, AllTell, all-tell}
 
 -- a word by its kind and what its fields say
 record View (c : ℕ) (w : Word) : Type 0 where
@@ -38,36 +38,20 @@ record Back (q : ℕ) (vs : Values (word_format q).fields) : Type 0 where
 abbrev Backs : ℕ → Type 0
 Backs q = (vs : Values (word_format q).fields) → Fits 256 (word_format q).fields vs → Back q vs
 
-below-7 : (P : ℕ → Type 0) → P 0 → P 1 → P 2 → P 3 → P 4 → P 5 → P 6 → (q : ℕ) → q < 7 → P q
-below-7 P a0 a1 a2 a3 a4 a5 a6 zero h = a0
-below-7 P a0 a1 a2 a3 a4 a5 a6 (suc zero) h = a1
-below-7 P a0 a1 a2 a3 a4 a5 a6 (suc (suc zero)) h = a2
-below-7 P a0 a1 a2 a3 a4 a5 a6 (suc (suc (suc zero))) h = a3
-below-7 P a0 a1 a2 a3 a4 a5 a6 (suc (suc (suc (suc zero)))) h = a4
-below-7 P a0 a1 a2 a3 a4 a5 a6 (suc (suc (suc (suc (suc zero))))) h = a5
-below-7 P a0 a1 a2 a3 a4 a5 a6 (suc (suc (suc (suc (suc (suc zero)))))) h = a6
-below-7 P a0 a1 a2 a3 a4 a5 a6 (suc (suc (suc (suc (suc (suc (suc q))))))) h = absurd (let z : ⊥ = omega arith in z)
-
 back : (q : ℕ) → q < 7 → Backs q
 unfolding CarriedWord
-back q h =
-    below-7 Backs
-    (λ vs f. record { carried = tt; spelt = λ c. refl })
-    (λ vs f. record { carried = tt; spelt = λ c. refl })
-    (λ vs f. record { carried = f.0; spelt = λ c. refl })
-    (λ vs f. record { carried = (f.0, f.1.0, f.1.1.0); spelt = λ c. refl })
-    (λ vs f. record { carried = f.0; spelt = λ c. refl })
-    (λ vs f. record { carried = (f.0, f.1.0); spelt = λ c. refl })
-    (λ vs f. record { carried = (f.0, f.1.0); spelt = λ c. refl })
-    q h
+back zero h vs f = record { carried = tt; spelt = λ c. refl }
+back (suc zero) h vs f = record { carried = tt; spelt = λ c. refl }
+back (suc (suc zero)) h vs f = record { carried = f.0; spelt = λ c. refl }
+back (suc (suc (suc zero))) h vs f = record { carried = (f.0, f.1.0, f.1.1.0); spelt = λ c. refl }
+back (suc (suc (suc (suc zero)))) h vs f = record { carried = f.0; spelt = λ c. refl }
+back (suc (suc (suc (suc (suc zero))))) h vs f = record { carried = (f.0, f.1.0); spelt = λ c. refl }
+back (suc (suc (suc (suc (suc (suc zero)))))) h vs f = record { carried = (f.0, f.1.0); spelt = λ c. refl }
+back (suc (suc (suc (suc (suc (suc (suc q))))))) h vs f = absurd (let z : ⊥ = omega arith in z)
 
 -- the answer where the program's byte is c and the kind's is x
 abbrev by_bytes : List ℕ → ℕ → ℕ → ℕ → Found (ℕ × Word)
 by_bytes bs k c x = pick (ltb x 7) (told c (decode_word_kind x bs k)) (Err (k + 1))
-
-pub by-told : (c : ℕ) (x : Found Word) (P : Found (ℕ × Word) → Type 0) → ((y : Word × ℕ) → x ≡ Ok y → P (Ok ((c, y.0), y.1))) → ((j : ℕ) → x ≡ Err j → P (Err j)) → P (told c x)
-by-told c (Ok y) P f g = f y refl
-by-told c (Err j) P f g = g j refl
 
 word-reads : (m : ℕ × Word) (bs t : List ℕ) (k : ℕ) → Told m → k ≤ length bs → drop k bs ≡ spell_told m ++ t → decode_word bs k ≡ Ok (m, k + length (spell_told m))
 word-reads m bs t k s h d =
@@ -100,29 +84,6 @@ pub record Was (bs : List ℕ) (k : ℕ) (r : (ℕ × Word) × ℕ) : Type 0 whe
   pub within : r.1 ≤ length bs
   pub spelt : drop k bs ≡ spell_told r.0 ++ drop r.1 bs
 
-word-only : (bs : List ℕ) (k : ℕ) → Bytes bs → (r : (ℕ × Word) × ℕ) → decode_word bs k ≡ Ok r → Was bs k r
-word-only bs k b r =
-    let c = get_or bs k 0 in
-    let g = get_or bs (k + 1) 0 in
-    by-there bs (k + 2) _ (λ x. x ≡ Ok r → Was bs k r)
-    (λ l. by-pick (ltb g 7) _ _ (λ x. x ≡ Ok r → Was bs k r)
-    (λ t. by-told c (decode_word_kind g bs k) (λ x. x ≡ Ok r → Was bs k r)
-    (λ y e q. subst (Was bs k) (ok_same ((c, y.0), y.1) r q) (was y l (ltb-true g 7 t) (all-only (word_format g).fields (word_format g).says 256 bs k 2 l b y e)))
-    (λ j _ q. absurd (err-not-ok r j q)))
-    (λ t q. absurd (err-not-ok r (k + 1) q)))
-    (λ l q. absurd (err-not-ok r (length bs) q))
-  where
-    was : (y : Word × ℕ) → k + 2 ≤ length bs → get_or bs (k + 1) 0 < 7 → AllGot 256 (word_format (get_or bs (k + 1) 0)).fields (word_format (get_or bs (k + 1) 0)).says bs k 2 y →
-        Was bs k ((get_or bs k 0, y.0), y.1)
-    was y l low a =
-        let c = get_or bs k 0 in
-        let g = get_or bs (k + 1) 0 in
-        let k' = back g low a.values a.fits in
-        let P : Word → Type 0 = λ w. CarriedWord w × (drop k bs ≡ encode_word c w ++ drop y.1 bs) in
-        let w = subst P a.is
-        (k'.carried, two-front bs k l ∙ ap (λ t. c ∷ g ∷ t) a.spelt ∙ ap (λ t. t ++ drop y.1 bs) (sym (k'.spelt c))) in
-        record { sent = (b k, w.0); after = omega (arith, a.from); within = a.within; spelt = w.1 }
-
 -- what is known of a fault, but that no word stands there
 record FaultAt (bs : List ℕ) (k j : ℕ) : Type 0 where
   from : k ≤ j
@@ -135,25 +96,37 @@ refusal : (c : ℕ) → c < 256 → Told (c, no)
 unfolding CarriedWord
 refusal c h = (h, tt)
 
-word-faults : (bs : List ℕ) (k : ℕ) → Bytes bs → k ≤ length bs → (j : ℕ) → decode_word bs k ≡ Err j → FaultAt bs k j
-word-faults bs k b h j =
-    let c = get_or bs k 0 in
+-- what a reader's answer tells of a row
+abbrev Tells : List ℕ → ℕ → Found (ℕ × Word) → Type 0
+Tells bs k (Ok r) = Was bs k r
+Tells bs k (Err j) = k ≤ length bs → FaultAt bs k j
+
+word-tells : (bs : List ℕ) (k : ℕ) → Bytes bs → Tells bs k (decode_word bs k)
+word-tells bs k b =
     let g = get_or bs (k + 1) 0 in
-    by-there bs (k + 2) _ (λ x. x ≡ Err j → FaultAt bs k j)
-    (λ l. by-pick (ltb g 7) _ _ (λ x. x ≡ Err j → FaultAt bs k j)
-    (λ t. by-told c (decode_word_kind g bs k) (λ x. x ≡ Err j → FaultAt bs k j)
-    (λ y _ q. absurd (ok-not-err ((c, y.0), y.1) j q))
-    (λ i e q. subst (FaultAt bs k) (err-same {A = ℕ × Word} i j q)
-    (inside i l (ltb-true g 7 t) (all-faults (word_format g).fields (word_format g).says 256 bs k 2 l b (omega arith) i e))))
-    (λ t q. subst (FaultAt bs k) (err-same {A = ℕ × Word} (k + 1) j q) (at-kind l (ltb-false g 7 t))))
-    (λ l q. subst (FaultAt bs k) (err-same {A = ℕ × Word} (length bs) j q) (at-end l))
+    by-there bs (k + 2) _ (Tells bs k)
+    (λ l. by-pick (ltb g 7) _ _ (Tells bs k)
+    (λ t. inside l (ltb-true g 7 t) (decode_word_kind g bs k) (all-tell Word (word_format g).fields (word_format g).says 256 bs k 2 l b))
+    (λ t. (λ h. at-kind l (ltb-false g 7 t))))
+    (λ l. (λ h. at-end h l))
   where
+    was : (y : Word × ℕ) → k + 2 ≤ length bs → get_or bs (k + 1) 0 < 7 → AllGot 256 (word_format (get_or bs (k + 1) 0)).fields (word_format (get_or bs (k + 1) 0)).says bs k 2 y →
+        Was bs k ((get_or bs k 0, y.0), y.1)
+    was y l low a =
+        let c = get_or bs k 0 in
+        let g = get_or bs (k + 1) 0 in
+        let k' = back g low a.values a.fits in
+        let P : Word → Type 0 = λ w. CarriedWord w × (drop k bs ≡ encode_word c w ++ drop y.1 bs) in
+        let w = subst P a.is
+        (k'.carried, two-front bs k l ∙ ap (λ t. c ∷ g ∷ t) a.spelt ∙ ap (λ t. t ++ drop y.1 bs) (sym (k'.spelt c))) in
+        record { sent = (b k, w.0); after = omega (arith, a.from); within = a.within; spelt = w.1 }
+
     -- the bytes from k on up to n, with the two bytes in front
     front : (n : ℕ) → k + 2 ≤ length bs → k + 2 ≤ n → take (n - k) (drop k bs) ≡ get_or bs k 0 ∷ get_or bs (k + 1) 0 ∷ take (n - (k + 2)) (drop (k + 2) bs)
     front n l m = past bs (get_or bs k 0 ∷ get_or bs (k + 1) 0 ∷ []) k (k + 2) n refl (two-front bs k l) m
 
-    at-end : length bs < k + 2 → FaultAt bs k (length bs)
-    at-end l =
+    at-end : k ≤ length bs → length bs < k + 2 → FaultAt bs k (length bs)
+    at-end h l =
         record {
           from = h;
           within = omega arith;
@@ -195,8 +168,8 @@ word-faults bs k b h j =
               omega (arith, v.low);
         }
 
-    inside : (i : ℕ) → k + 2 ≤ length bs → get_or bs (k + 1) 0 < 7 → AllBad 256 (word_format (get_or bs (k + 1) 0)).fields bs k 2 i → FaultAt bs k i
-    inside i l low d =
+    fault : (i : ℕ) → k + 2 ≤ length bs → get_or bs (k + 1) 0 < 7 → AllBad 256 (word_format (get_or bs (k + 1) 0)).fields bs k 2 i → FaultAt bs k i
+    fault i l low d =
         let c = get_or bs k 0 in
         let g = get_or bs (k + 1) 0 in
         let fs = (word_format g).fields in
@@ -213,11 +186,8 @@ word-faults bs k b h j =
           );
           here = λ n m s w.
               let v = view m.0 m.1 s.1 in
-              let z1 : suc (i - k) ≡ suc i - k = omega (arith, d.from) in
-              let z2 : suc i - (k + 2) ≡ suc (i - (k + 2)) = omega (arith, d.from) in
               let rest = take (suc (i - (k + 2))) (drop (k + 2) bs) in
-              let f : take (suc (i - k)) (drop k bs) ≡ c ∷ g ∷ rest =
-              ap (λ n. take n (drop k bs)) z1 ∙ front (suc i) l (omega (arith, d.from)) ∙ ap (λ n. c ∷ g ∷ take n (drop (k + 2) bs)) z2 in
+              let f = past_one bs (c ∷ g ∷ []) k (k + 2) i refl (two-front bs k l) d.from in
               let e1 : c ∷ g ∷ (rest ++ w.0) ≡ m.0 ∷ v.q ∷ bytes (word_format v.q).fields v.values = sym (ap (λ t. t ++ w.0) f) ∙ w.1 ∙ v.spelt in
               let same : g ≡ v.q = heads g v.q (rest ++ w.0) (bytes (word_format v.q).fields v.values) (ap (drop 1) e1) in
               let P : ℕ → Type 0 = λ q. AllBad 256 (word_format q).fields bs k 2 i in
@@ -225,13 +195,18 @@ word-faults bs k b h j =
               (subst P same d).here n v.values w.0 [] v.fits (tails ∙ sym (append-nil (bytes (word_format v.q).fields v.values)));
         }
 
+    inside : k + 2 ≤ length bs → get_or bs (k + 1) 0 < 7 → (x : Found Word) →
+        AllTell 256 (word_format (get_or bs (k + 1) 0)).fields (word_format (get_or bs (k + 1) 0)).says bs k 2 x → Tells bs k (told (get_or bs k 0) x)
+    inside l low (Ok y) a = was y l low a
+    inside l low (Err j) a = λ h. fault j l low (a (omega arith))
+
 -- a row that is short enough
 short : (bs : List ℕ) (k : ℕ) → length bs < 4294967296 → read_told bs k ≡ decode_word bs k
 short bs k l = ap (λ b. pick b (Err 4294967295) (decode_word bs k)) (lt-leb 4294967296 (length bs) l)
 
 pub read-was : (bs : List ℕ) (k : ℕ) → Bytes bs → (r : (ℕ × Word) × ℕ) → read_told bs k ≡ Ok r → Was bs k r
 read-was bs k b r =
-    by-pick (leb 4294967296 (length bs)) _ _ (λ x. x ≡ Ok r → Was bs k r) (λ _ q. absurd (err-not-ok r 4294967295 q)) (λ _ q. word-only bs k b r q)
+    by-pick (leb 4294967296 (length bs)) _ _ (λ x. x ≡ Ok r → Was bs k r) (λ _ q. absurd (err-not-ok r 4294967295 q)) (λ _ q. subst (Tells bs k) q (word-tells bs k b))
 
 pub reads-word-back : ReadsWordBack
 unfolding ReadsWordBack
@@ -250,7 +225,7 @@ pub word-faults-first : WordFaultsFirst
 unfolding WordFaultsFirst
 word-faults-first bs k j b l h q =
     let d = sym (short bs k l) ∙ q in
-    let f = word-faults bs k b h j d in
+    let f = subst (Tells bs k) d (word-tells bs k b) h in
     record {
       from = f.from;
       within = f.within;

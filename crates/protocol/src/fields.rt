@@ -17,7 +17,7 @@ impl Reader<'_> {
     pub fn begin(bytes: &[u8], start: usize, read: u8) -> Result<Reader<'_>, Fault>
         ensures { elim result [
           | Ok r ↦ (r.bytes.now ≡ bytes.now) × (r.start ≡ start) × (r.read ≡ read)
-          | Err e ↦ (4294967296 ≤ length bytes.now × (e.place ≡ 4294967295)) ⊎ ((length bytes.now < 4294967296) × (length bytes.now < start + read) × (e.place ≡ length bytes.now))
+          | Err e ↦ (CALL_END ≤ length bytes.now × (e.place + 1 ≡ CALL_END)) ⊎ ((length bytes.now < CALL_END) × (length bytes.now < start + read) × (e.place ≡ length bytes.now))
         ] }
     {
         if bytes.len() >= CALL_END {

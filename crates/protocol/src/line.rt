@@ -162,7 +162,7 @@ impl Line {
 
 impl Part {
     // Whether it lies in a row of so many bytes, with elements of so many each.
-    pub fn lies_in(self, width: u8, total: usize) -> bool
+    pub(crate) fn lies_in(self, width: u8, total: usize) -> bool
         ensures { result ≡ nat_le (self.from + width * self.count) total }
     {
         room(total, self.from, width as usize * self.count as usize)
