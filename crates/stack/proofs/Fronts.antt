@@ -1,5 +1,5 @@
 -- The window in front at a place: how it hangs on the windows and on the order, and the step of a search from the front.
-use Rattle.std.proofs.Common.{◌≡◌, ℕ, suc, ◌-◌, ◌<◌, ◌≤◌, Bool, true, false, ◌&&◌, eqb, List, [], ◌∷◌, ◌++◌, length, get_or, take, ℤ, pos, ◌+ℤ◌, ◌-ℤ◌, refl, inl, inr, arith, rules}
+use Rattle.std.proofs.Common.{◌≡◌, ℕ, suc, ◌-◌, ◌<◌, ◌≤◌, Bool, true, false, ◌&&◌, eqb, List, [], ◌∷◌, ◌++◌, length, get_or, take, ℤ, pos, ◌+ℤ◌, ◌-ℤ◌, Some, None, Option, sym, refl, ap, ◌∙◌, inl, inr, arith, rules}
 use lib.Signed.{le_z, lt_z, mag}
 use Rattle.std.proofs.lemmas.List.{take_more}
 use Rattle.std.proofs.lemmas.Bool.{cases_eq, eq-eqb, ne_eqb, and_parts}
@@ -7,6 +7,11 @@ use Rattle.std.proofs.lemmas.Bool.Decides.{nat_tests}
 use Rattle.model.specs.Basics.{pick}
 use Rattle.model.specs.Desk as desk
 use Rattle.model.specs.Desk.{Desk, front, in_window, window, dot, dot_of}
+use Rattle.std.specs.Option.{MatchOption, IsSomeAnd}
+use Rattle.stack.specs.declared.state.Window.{Window}
+use Rattle.stack.specs.declared.state.Stack.{Stack}
+use Rattle.stack.specs.View.{windows_of, order_of, numbered}
+use Rattle.stack.specs.Found.{Found}
 
 -- it looks at windows only
 pub front_same : (d e : Desk) (o : List ℕ) (x y : ℤ) → d.windows ≡ e.windows → front d o x y ≡ front e o x y
@@ -79,3 +84,11 @@ dot-back d i j e = rw e
 pub dot-front : (d : Desk) (i j n : ℕ) → front d d.order (pos i) (pos j) ≡ suc n → dot d i j ≡ (window d n).dots (mag (pos i -ℤ (window d n).x)) (mag (pos j -ℤ (window d n).y))
 unfolding dot dot_of
 dot-front d i j n e = rw e
+
+-- a window's number, where one was found
+pub numbered-by : (s : Stack) (x y : ℤ) (o : Option (ℕ × Window)) (r : Option ℕ) (makes : ℕ × Window → ℕ → Type 0) → Found s x y o →
+    MatchOption o (r ≡ None) (λ f. IsSomeAnd r (makes f)) → ((f : ℕ × Window) (n : ℕ) → makes f n → n ≡ f.0) →
+    (d : Desk) (p : List ℕ) → d.windows ≡ windows_of s p → numbered r ≡ front d (order_of s) x y
+numbered-by s x y None r makes h m t d p e = rw m (sym (h d p e))
+numbered-by s x y (Some f) (Some n) makes h m t d p e = ap suc (t f n m) ∙ sym (h.front d p e)
+numbered-by s x y (Some f) None makes h m t d p e = absurd m
