@@ -28,8 +28,7 @@ impl Stack {
     pub fn front_window(&self, x: i16, y: i16) -> Option<(u8, Window)>
         ensures { Found self.now x y result }
     {
-        for i in (0..self.order.len).rev() {
-            let n = self.order.items[i];
+        for &n in self.order.as_slice().iter().rev() {
             let Some(w) = self.window(n) else {
                 continue;
             };
