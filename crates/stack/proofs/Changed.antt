@@ -1,5 +1,5 @@
 -- A window that its owner changes.
-use Rattle.std.proofs.Common.{◌≡◌, ℕ, Bool, true, false, List, map, set, ℤ, Some, None, Option, sym, ap, ◌∙◌}
+use Rattle.std.proofs.Common.{◌≡◌, ℕ, Bool, true, false, List, map, set, ℤ, Some, Option, sym, ap, ◌∙◌}
 use Rattle.model.specs.Basics.{pick}
 use Rattle.model.specs.Desk as desk
 use Rattle.model.specs.Desk.{Desk, window, mine}

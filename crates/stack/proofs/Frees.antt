@@ -60,8 +60,10 @@ free-position p ws o limit e l = ap (λ q. unwrap_or q limit) e ∙ go (cases_lt
   where
     f : ℕ
     f = position_or_len (λ o. not (is_some o)) ws
+
     most : f ≤ length ws
     most = let m = simp length-map at (free-most (map (view p) ws)) in omega (arith, free-first p ws)
+
     go : ((f < length ws) ⊎ (length ws ≤ f)) → unwrap_or (cond (ltb f (length ws)) (Some f) None) limit ≡ f
     go (inl h) = rw (lt-ltb f (length ws) h) refl
     go (inr h) = rw (le-ltb f (length ws) h) (omega (arith, l, most))

@@ -1,7 +1,7 @@
 -- The windows by number: the state's, and those of a desk that it stands for.
 use Rattle.std.proofs.Common.{◌≡◌, ℕ, zero, suc, ◌<◌, ◌≤◌, Bool, true, false, ◌&&◌, eqb, List, [], ◌∷◌, map, length, get_or, take, set, replicate, is_some, Some, None, Option, sym, refl, ap, ◌∙◌, inl, inr, arith}
 use lib.LanesLaws.{map-replicate}
-use Rattle.std.proofs.lemmas.List.{length-take, length-take-le, length-map, get_or-take, get_or_past, get_or-map, take-replicate, set_past, map-set}
+use Rattle.std.proofs.lemmas.List.{length-take, length-take-le, length-map, get_or-take, get_or_past, get_or-map, take-replicate, map-set}
 use Rattle.std.proofs.lemmas.Bool.{cases_lt, false≢true, eqb-true}
 use Rattle.std.specs.Option.{MatchOption}
 use Rattle.std.specs.Bool.{then_some}
@@ -37,9 +37,6 @@ slot-set zero ws n w = refl
 slot-set (suc m) [] n w = refl
 slot-set (suc m) (x ∷ xs) zero w = refl
 slot-set (suc m) (x ∷ xs) (suc n) w = ap (λ ys. x ∷ ys) (slot-set m xs n w)
-
-pub slot-set-past : {X : Type 0} (limit : ℕ) (ws : List X) (n : ℕ) (w : X) → limit ≤ n → take limit ws ≡ set (take limit ws) n w
-slot-set-past limit ws n w h = sym (set_past (take limit ws) n w (simp length-take (omega arith)))
 
 pub views-set : (p : List ℕ) (ws us : List (Option Window)) (n : ℕ) (w : Option Window) → us ≡ set ws n w → map (view p) us ≡ set (map (view p) ws) n (view p w)
 views-set p ws us n w e = ap (map (view p)) e ∙ map-set (view p) ws n w

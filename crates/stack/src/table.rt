@@ -97,7 +97,9 @@ impl Stack {
         ensures none { slice_index_or (slots_of self.now) result None ≡ None }
         ensures most { result ≤ self.now.limit }
     {
-        let free = self.windows[..self.limit].iter().position(|slot| slot.is_none());
+        let free = self.windows[..self.limit]
+            .iter()
+            .position(|slot| slot.is_none());
         free.unwrap_or(self.limit) as u8
     }
 

@@ -1,4 +1,4 @@
-use Rattle.std.proofs.Common.{◌≡◌, ◌+◌, ◌<◌, ◌++◌, Bool, true, false, [], ◌∷◌, length, get_or, sym, refl, ap, ◌∙◌, arith, rules, of_calls}
+use Rattle.std.proofs.Common.{◌≡◌, ◌+◌, ◌<◌, ◌++◌, true, false, [], ◌∷◌, length, get_or, sym, refl, ap, ◌∙◌, arith, of_calls}
 use Rattle.std.specs.Fn.{CalledAt}
 use Rattle.std.proofs.lemmas.Fn.{called_at}
 use Rattle.std.specs.List.{items_where_true}
@@ -24,27 +24,27 @@ loop-x-preserved g c =
     let at : x ≡ get_or old (length bs) x = c.x-item.is ∙ ap (λ l. get_or l c.loop-x.x-index x) e ∙ ap (λ k. get_or old k x) (sym v.1) in
     elim c.if-f.branch [
       | then-f w ↦
-        let r : w.push.result ≡ true = w.push.ensures.answer ∙ lt-ltb _ _ (omega (arith, length-take-le c.args.self.now.len c.args.self.now.items (omega arith))) in
-        let p = w.push.ensures.items ∙ ap (λ b. pick b (held c.loop-x.self ++ x ∷ []) (held c.loop-x.self)) r in (
-          search of_calls,
-          rw (w.self-is, p, length-append (held c.loop-x.self) (x ∷ [])) (omega arith),
-          (
-            bs ++ true ∷ [],
-            length-append bs (true ∷ []) ∙ ap (λ k. k + 1) v.1,
-            answers_push (CalledAt g.F.FnMut) _ _ _ bs old x true h at v.2 (called_at g.F.FnMut c.f.ensures w.if-f.true),
-            rw w.self-is (p ∙ ap (λ l. l ++ x ∷ []) v.3 ∙ ap (λ y. items_where_true bs old ++ y ∷ []) at ∙ sym (picked_push_true bs old x h)),
-          ),
-        )
+          let r : w.push.result ≡ true = w.push.ensures.answer ∙ lt-ltb _ _ (omega (arith, length-take-le c.args.self.now.len c.args.self.now.items (omega arith))) in
+          let p = w.push.ensures.items ∙ ap (λ b. pick b (held c.loop-x.self ++ x ∷ []) (held c.loop-x.self)) r in (
+            search of_calls,
+            rw (w.self-is, p, length-append (held c.loop-x.self) (x ∷ [])) (omega arith),
+            (
+              bs ++ true ∷ [],
+              length-append bs (true ∷ []) ∙ ap (λ k. k + 1) v.1,
+              answers_push (CalledAt g.F.FnMut) _ _ _ bs old x true h at v.2 (called_at g.F.FnMut c.f.ensures w.if-f.true),
+              rw w.self-is (p ∙ ap (λ l. l ++ x ∷ []) v.3 ∙ ap (λ y. items_where_true bs old ++ y ∷ []) at ∙ sym (picked_push_true bs old x h)),
+            ),
+          )
       | else-f w ↦ (
-          search of_calls,
-          rw w.self-is (omega arith),
-          (
-            bs ++ false ∷ [],
-            length-append bs (false ∷ []) ∙ ap (λ k. k + 1) v.1,
-            answers_push (CalledAt g.F.FnMut) _ _ _ bs old x false h at v.2 (called_at g.F.FnMut c.f.ensures w.if-f.false),
-            rw w.self-is (v.3 ∙ sym (picked_push_false bs old)),
-          ),
-        )
+        search of_calls,
+        rw w.self-is (omega arith),
+        (
+          bs ++ false ∷ [],
+          length-append bs (false ∷ []) ∙ ap (λ k. k + 1) v.1,
+          answers_push (CalledAt g.F.FnMut) _ _ _ bs old x false h at v.2 (called_at g.F.FnMut c.f.ensures w.if-f.false),
+          rw w.self-is (v.3 ∙ sym (picked_push_false bs old)),
+        ),
+      )
     ]
 
 pub returns : goal.returns

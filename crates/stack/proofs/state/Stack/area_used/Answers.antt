@@ -1,6 +1,5 @@
 use Rattle.std.proofs.Common.{refl, arith}
 use Rattle.stack.specs.View.{slots_of}
-use Rattle.stack.proofs.Slots.{length-slots}
 use Rattle.stack.proofs.Areas.{area-step, area-end}
 use Rattle.stack.proofs.state.Stack.area_used.Goals as goal
 
@@ -12,10 +11,5 @@ loop-slot-preserved c = (
   omega arith,
 )
 
-pub returns : goal.returns
-returns c =
-    let l = length-slots c.args.self.now in
-    record {
-      value = λ p. let e = area-end p (slots_of c.args.self.now) c.loop-slot.slot-index c.loop-slot-test.false in omega (arith, c.loop-slot.invariant.0 p);
-      small = omega arith;
-    }
+pub returns-clause-value : goal.returns-clause-value
+returns-clause-value c p = let e = area-end p (slots_of c.args.self.now) c.loop-slot.slot-index c.loop-slot-test.false in omega (arith, c.loop-slot.invariant.0 p)
