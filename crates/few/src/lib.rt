@@ -2,6 +2,8 @@
 #![tactic(auto)]
 
 ghost use Rattle.std.specs.Prelude.{◌≡◌, ℕ, ◌&&◌, [], ◌∷◌, ◌++◌, length, take, drop, is_some, IfSome, nat_le, nat_lt};
+ghost use Rattle.std.specs.Fn.{CalledAt};
+ghost use Rattle.std.specs.List.Retain.{IsFiltered};
 ghost use Rattle.few.specs.Held.{held, pick};
 
 mod list;
@@ -67,5 +69,19 @@ impl<T: Copy, const N: usize> Few<T, N> {
         self.items[k] = x;
         self.len += 1;
         true
+    }
+
+    // Only those at which f says true, in their order.
+    pub fn retain<F: FnMut(&T) -> bool>(&mut self, mut f: F)
+        requires { F.IsAlwaysCallable f }
+        ensures { IsFiltered (CalledAt F.FnMut) f (held self.old) (held self.new) }
+    {
+        let all = *self;
+        self.len = 0;
+        for x in all.as_slice() {
+            if f(x) {
+                self.push(*x);
+            }
+        }
     }
 }

@@ -1,7 +1,10 @@
--- The lowest free number: what it says of a list of windows, and the steps of a search for it.
-use Rattle.std.proofs.Common.{◌≡◌, ℕ, zero, suc, ◌+◌, ◌<◌, ◌≤◌, Bool, true, false, List, [], ◌∷◌, map, length, get_or, drop, is_some, Some, None, Option, refl, ◌∙◌, arith}
-use Rattle.std.proofs.lemmas.List.{at_drop_more, at_drop_all}
-use Rattle.std.proofs.lemmas.Bool.{true≢false, false≢true}
+-- The lowest free number: what it says of a list of windows.
+use Rattle.std.proofs.Common.{◌≡◌, ℕ, zero, suc, ◌+◌, ◌<◌, ◌≤◌, Bool, true, false, List, [], ◌∷◌, map, length, get_or, is_some, Some, None, Option, sym, refl, ap, ◌∙◌, ◌⊎◌, inl, inr, not, cond, ltb, arith}
+use Rattle.std.specs.List.{position, position_or_len}
+use Rattle.std.specs.Option.{unwrap_or}
+use Rattle.std.proofs.lemmas.List.{length-map}
+use Rattle.std.proofs.lemmas.List.Recursion.{is_position_or_len}
+use Rattle.std.proofs.lemmas.Bool.{cases_lt, lt-ltb, le-ltb}
 use Rattle.model.specs.Basics.{pick}
 use Rattle.model.specs.Desk as desk
 use Rattle.model.specs.Desk.{nothing, free}
@@ -39,23 +42,28 @@ free-below (w ∷ ws) n h = go w.there refl n h (free-below ws)
     go true e (suc m) l f = f m (omega arith)
     go false e n l f = absurd (omega arith)
 
-at_none : (p : List ℕ) (o : Option Window) (ws : List (Option Window)) → is_some o ≡ false → free (map (view p) (o ∷ ws)) ≡ 0
+pub none-by : {X : Type 0} (o : Option X) (b : Bool) → is_some o ≡ not b → b ≡ not (is_some o)
+none-by o true e = ap not (sym e)
+none-by o false e = ap not (sym e)
+
+free-first : (p : List ℕ) (ws : List (Option Window)) → free (map (view p) ws) ≡ position_or_len (λ o. not (is_some o)) ws
 unfolding free
-at_none p None ws e = refl
-at_none p (Some w) ws e = absurd (true≢false e)
+free-first p ws = is_position_or_len (λ us. free (map (view p) us)) (λ o. not (is_some o)) refl next ws
+  where
+    next : (o : Option Window) (us : List (Option Window)) → free (map (view p) (o ∷ us)) ≡ cond (not (is_some o)) 0 (1 + free (map (view p) us))
+    next None us = refl
+    next (Some w) us = omega arith
 
-at_some : (p : List ℕ) (o : Option Window) (ws : List (Option Window)) → is_some o ≡ true → free (map (view p) (o ∷ ws)) ≡ suc (free (map (view p) ws))
-unfolding free
-at_some p None ws e = absurd (false≢true e)
-at_some p (Some w) ws e = refl
+-- the first place without a window, or how many places there are
+pub free-position : (p : List ℕ) (ws : List (Option Window)) (o : Option ℕ) (limit : ℕ) → o ≡ position (λ o. not (is_some o)) ws → length ws ≡ limit → unwrap_or o limit ≡ free (map (view p) ws)
+free-position p ws o limit e l = ap (λ q. unwrap_or q limit) e ∙ go (cases_lt f (length ws)) ∙ sym (free-first p ws)
+  where
+    f : ℕ
+    f = position_or_len (λ o. not (is_some o)) ws
 
--- a search from the number i on
-pub free-none : (p : List ℕ) (ws : List (Option Window)) (i : ℕ) → i < length ws → is_some (get_or ws i None) ≡ false → free (map (view p) (drop i ws)) ≡ 0
-free-none p ws i h e = at_drop_more (λ us. free (map (view p) us)) ws i None h ∙ at_none p _ _ e
+    most : f ≤ length ws
+    most = let m = simp length-map at (free-most (map (view p) ws)) in omega (arith, free-first p ws)
 
-pub free-some : (p : List ℕ) (ws : List (Option Window)) (i : ℕ) → i < length ws → is_some (get_or ws i None) ≡ true → free (map (view p) (drop i ws)) ≡ suc (free (map (view p) (drop (i + 1) ws)))
-free-some p ws i h e = at_drop_more (λ us. free (map (view p) us)) ws i None h ∙ at_some p _ _ e
-
-pub free-end : (p : List ℕ) (ws : List (Option Window)) (i : ℕ) → length ws ≤ i → free (map (view p) (drop i ws)) ≡ 0
-unfolding free
-free-end p ws i h = at_drop_all (λ us. free (map (view p) us)) ws i h
+    go : ((f < length ws) ⊎ (length ws ≤ f)) → unwrap_or (cond (ltb f (length ws)) (Some f) None) limit ≡ f
+    go (inl h) = rw (lt-ltb f (length ws) h) refl
+    go (inr h) = rw (le-ltb f (length ws) h) (omega (arith, l, most))

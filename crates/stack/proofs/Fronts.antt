@@ -1,12 +1,17 @@
 -- The window in front at a place: how it hangs on the windows and on the order, and the step of a search from the front.
-use Rattle.std.proofs.Common.{◌≡◌, ℕ, suc, ◌-◌, ◌<◌, ◌≤◌, Bool, true, false, ◌&&◌, eqb, List, [], ◌∷◌, ◌++◌, length, get_or, take, ℤ, pos, ◌+ℤ◌, ◌-ℤ◌, refl, inl, inr, arith, rules}
+use Rattle.std.proofs.Common.{◌≡◌, ℕ, suc, ◌+◌, ◌<◌, Bool, true, false, ◌&&◌, eqb, List, [], ◌∷◌, ◌++◌, length, get_or, drop, reverse, ℤ, pos, ◌+ℤ◌, ◌-ℤ◌, Some, None, Option, sym, refl, ap, ◌∙◌, inl, inr, arith}
 use lib.Signed.{le_z, lt_z, mag}
-use Rattle.std.proofs.lemmas.List.{take_more}
+use Rattle.std.proofs.lemmas.List.{at_drop_more, at_drop_all, reverse-append}
 use Rattle.std.proofs.lemmas.Bool.{cases_eq, eq-eqb, ne_eqb, and_parts}
 use Rattle.std.proofs.lemmas.Bool.Decides.{nat_tests}
 use Rattle.model.specs.Basics.{pick}
 use Rattle.model.specs.Desk as desk
 use Rattle.model.specs.Desk.{Desk, front, in_window, window, dot, dot_of}
+use Rattle.std.specs.Option.{MatchOption, IsSomeAnd}
+use Rattle.stack.specs.declared.state.Window.{Window}
+use Rattle.stack.specs.declared.state.Stack.{Stack}
+use Rattle.stack.specs.View.{windows_of, order_of, numbered}
+use Rattle.stack.specs.Found.{Found}
 
 -- it looks at windows only
 pub front_same : (d e : Desk) (o : List ℕ) (x y : ℤ) → d.windows ≡ e.windows → front d o x y ≡ front e o x y
@@ -39,14 +44,18 @@ front-in d (m ∷ ms) x y n e =
     go true f g = let h : n ≡ m = omega arith in rw h f
     go false f g = absurd (omega arith)
 
--- the first i of an order, by the last of them, whose window is w
-pub front-step : (d : Desk) (o : List ℕ) (i : ℕ) (x y : ℤ) (w : desk.Window) (b : Bool) → 0 < i → i ≤ length o →
-    w ≡ window d (get_or o (i - 1) 0) → b ≡ in_window w x y →
-    front d (take i o) x y ≡ pick b (suc (get_or o (i - 1) 0)) (front d (take (i - 1) o) x y)
-front-step d o i x y w b p h e f =
-    let q : i - 1 < length o = omega arith in
-    let t : take i o ≡ take (i - 1) o ++ get_or o (i - 1) 0 ∷ [] = search (rules, take_more) in
-    rw (t, f, e) (front-push d (take (i - 1) o) (get_or o (i - 1) 0) x y)
+-- a search from the front: the numbers that are left at the place i, by the one that stands there, whose window is w
+pub front-turn : (d : Desk) (o : List ℕ) (i n : ℕ) (x y : ℤ) (w : desk.Window) (b : Bool) → (i < length (reverse o)) × (n ≡ get_or (reverse o) i n) →
+    w ≡ window d n → b ≡ in_window w x y → front d (reverse (drop i (reverse o))) x y ≡ pick b (suc n) (front d (reverse (drop (i + 1) (reverse o))) x y)
+front-turn d o i n x y w b h e f =
+    let rest = drop (i + 1) (reverse o) in
+    at_drop_more (λ ns. front d (reverse ns) x y) (reverse o) i n h.0 ∙ ap (λ m. front d (reverse (m ∷ rest)) x y) (sym h.1)
+    ∙ ap (λ ns. front d ns x y) (reverse-append (n ∷ []) rest) ∙ rw (f, e) (front-push d (reverse rest) n x y)
+
+-- none is left
+pub front-end : (d : Desk) (o : List ℕ) (i : ℕ) (x y : ℤ) → i ≡ length (reverse o) → front d (reverse (drop i (reverse o))) x y ≡ 0
+unfolding front
+front-end d o i x y e = at_drop_all (λ ns. front d (reverse ns) x y) (reverse o) i (omega arith)
 
 -- a place that lies in a window lies between its edges
 pub record Lies (w : desk.Window) (x y : ℤ) : Type 0 where
@@ -79,3 +88,11 @@ dot-back d i j e = rw e
 pub dot-front : (d : Desk) (i j n : ℕ) → front d d.order (pos i) (pos j) ≡ suc n → dot d i j ≡ (window d n).dots (mag (pos i -ℤ (window d n).x)) (mag (pos j -ℤ (window d n).y))
 unfolding dot dot_of
 dot-front d i j n e = rw e
+
+-- a window's number, where one was found
+pub numbered-by : (s : Stack) (x y : ℤ) (o : Option (ℕ × Window)) (r : Option ℕ) (makes : ℕ × Window → ℕ → Type 0) → Found s x y o →
+    MatchOption o (r ≡ None) (λ f. IsSomeAnd r (makes f)) → ((f : ℕ × Window) (n : ℕ) → makes f n → n ≡ f.0) →
+    (d : Desk) (p : List ℕ) → d.windows ≡ windows_of s p → numbered r ≡ front d (order_of s) x y
+numbered-by s x y None r makes h m t d p e = rw m (sym (h d p e))
+numbered-by s x y (Some f) (Some n) makes h m t d p e = ap suc (t f n m) ∙ sym (h.front d p e)
+numbered-by s x y (Some f) None makes h m t d p e = absurd m

@@ -5,7 +5,6 @@ pub mod Orders
 pub mod Rooms
 pub mod Fronts
 pub mod Pictures
-mod Kept
 pub mod Packing
 mod Changed
 pub mod Packed

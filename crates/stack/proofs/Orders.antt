@@ -1,20 +1,20 @@
 -- An order without a number, and how many numbers an order can have.
-use Rattle.std.proofs.Common.{◌≡◌, ℕ, suc, ◌≤◌, Bool, true, false, eqb, ltb, List, [], ◌∷◌, ◌++◌, length, sym, refl, ap, ◌∙◌, arith}
-use Rattle.std.proofs.lemmas.Bool.{ltb-false}
+use Rattle.std.proofs.Common.{◌≡◌, ℕ, suc, ◌≤◌, Bool, true, false, not, cond, eqb, filter, ltb, List, [], ◌∷◌, ◌++◌, length, sym, refl, ap, ◌∙◌, inl, inr, arith}
+use Rattle.std.proofs.lemmas.Bool.{cases_eq, ne_eqb, ltb-false}
 use Rattle.model.specs.Basics.{pick}
 use Rattle.model.specs.Desk.{without}
 
-pub without-push : (n : ℕ) (xs : List ℕ) (m : ℕ) → without n (xs ++ m ∷ []) ≡ pick (eqb n m) (without n xs) (without n xs ++ m ∷ [])
+symmetric : (a b : ℕ) → eqb a b ≡ eqb b a
+symmetric a b = elim (cases_eq a b) [ inl e ↦ rw e refl | inr d ↦ rw (ne_eqb a b d, ne_eqb b a (λ e. d (sym e))) refl ]
+
+pub without-filter : (n : ℕ) (xs : List ℕ) → filter (λ m. not (eqb m n)) xs ≡ without n xs
 unfolding without
-without-push n [] m = refl
-without-push n (x ∷ xs) m = by (eqb n x) (eqb n m) (without-push n xs m)
+without-filter n [] = refl
+without-filter n (x ∷ xs) = rw (symmetric x n) (by (eqb n x) _ _ (without-filter n xs))
   where
-    by : (b c : Bool) → without n (xs ++ m ∷ []) ≡ pick c (without n xs) (without n xs ++ m ∷ []) →
-        pick b (without n (xs ++ m ∷ [])) (x ∷ without n (xs ++ m ∷ [])) ≡ pick c (pick b (without n xs) (x ∷ without n xs)) (pick b (without n xs) (x ∷ without n xs) ++ m ∷ [])
-    by true true e = e
-    by true false e = e
-    by false true e = ap (λ t. x ∷ t) e
-    by false false e = ap (λ t. x ∷ t) e
+    by : (b : Bool) (ys zs : List ℕ) → ys ≡ zs → cond (not b) (x ∷ ys) ys ≡ pick b zs (x ∷ zs)
+    by true ys zs e = e
+    by false ys zs e = ap (λ t. x ∷ t) e
 
 pub length_without : (n : ℕ) (xs : List ℕ) → length (without n xs) ≤ length xs
 unfolding without

@@ -39,13 +39,6 @@ dots-out p w i j (inr k) = elim (cases_lt i w.wide) [ inl h ↦ rw (lt-ltb i w.w
 pub dots_in : (p : List ℕ) (w : Window) (i j : ℕ) → i < w.wide → j < w.high → dots_of p w i j ≡ get_or p (w.at + j * w.wide + i) 0
 dots_in p w i j h k = rw (lt-ltb i w.wide h, lt-ltb j w.high k)
 
--- the picture is as it was
-pub view-same : (p q : List ℕ) (w : Window) →
-    ((i j : ℕ) → i < w.wide → j < w.high → get_or q (w.at + j * w.wide + i) 0 ≡ get_or p (w.at + j * w.wide + i) 0) → view q (Some w) ≡ view p (Some w)
-unfolding with-dots
-view-same p q w e =
-    ap (with-dots w) (fun_ext (λ i. fun_ext (λ j. dots-by w.wide w.high i j _ (dots_of p w i j) (λ h k. rw (dots_in p w i j h k) (e i j h k)) (dots-out p w i j))))
-
 -- the picture lies elsewhere
 pub view-begun : (p q : List ℕ) (at : ℕ) (w : Window) →
     ((i j : ℕ) → i < w.wide → j < w.high → get_or q (at + j * w.wide + i) 0 ≡ get_or p (w.at + j * w.wide + i) 0) →

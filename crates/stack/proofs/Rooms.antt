@@ -73,8 +73,5 @@ module _ (times : ℕ → List ℕ → ℕ) (none : (n : ℕ) → times n [] ≡
     none-past : (n : ℕ) → limit ≤ n → times n order ≡ 0
     none-past n l = elim (cases_Bool (there n)) [ inl e ↦ absurd (omega (arith, low n e)) | inr e ↦ once n ∙ ap (λ b. pick b 1 0) e ]
 
-    pub order-fits : length order ≤ limit
-    order-fits = few limit order most-once none-past
-
     pub room-for-one : (k : ℕ) → k < limit → there k ≡ false → length order < limit
     room-for-one k h e = fewer limit k order most-once none-past h (once k ∙ ap (λ b. pick b 1 0) e)

@@ -1,13 +1,16 @@
 -- The windows by number: the state's, and those of a desk that it stands for.
-use Rattle.std.proofs.Common.{◌≡◌, ℕ, zero, suc, ◌<◌, ◌≤◌, false, ◌&&◌, eqb, List, [], ◌∷◌, map, length, get_or, take, set, replicate, is_some, Some, None, Option, sym, refl, ap, ◌∙◌, inl, inr, arith}
+use Rattle.std.proofs.Common.{◌≡◌, ℕ, zero, suc, ◌<◌, ◌≤◌, Bool, true, false, ◌&&◌, eqb, List, [], ◌∷◌, map, length, get_or, take, set, replicate, is_some, Some, None, Option, sym, refl, ap, ◌∙◌, inl, inr, arith}
 use lib.LanesLaws.{map-replicate}
-use Rattle.std.proofs.lemmas.List.{length-take, length-take-le, length-map, get_or-take, get_or_past, get_or-map, take-replicate, set_past, map-set}
-use Rattle.std.proofs.lemmas.Bool.{cases_lt, false≢true, true≢false}
+use Rattle.std.proofs.lemmas.List.{length-take, length-take-le, length-map, get_or-take, get_or_past, get_or-map, take-replicate, map-set}
+use Rattle.std.proofs.lemmas.Bool.{cases_lt, false≢true, eqb-true}
+use Rattle.std.specs.Option.{MatchOption}
+use Rattle.std.specs.Bool.{then_some}
 use Rattle.model.specs.Desk as desk
 use Rattle.model.specs.Desk.{Desk, nothing, window, mine}
 use Rattle.stack.specs.declared.state.Window.{Window}
 use Rattle.stack.specs.declared.state.Stack.{Stack}
 use Rattle.stack.specs.View.{view, slots_of, windows_of, order_of}
+use Rattle.stack.specs.Found.{Owned}
 
 pub length-slots : (s : Stack) → length (slots_of s) ≡ s.limit
 length-slots s = length-take-le s.limit s.windows (omega arith)
@@ -35,9 +38,6 @@ slot-set (suc m) [] n w = refl
 slot-set (suc m) (x ∷ xs) zero w = refl
 slot-set (suc m) (x ∷ xs) (suc n) w = ap (λ ys. x ∷ ys) (slot-set m xs n w)
 
-pub slot-set-past : {X : Type 0} (limit : ℕ) (ws : List X) (n : ℕ) (w : X) → limit ≤ n → take limit ws ≡ set (take limit ws) n w
-slot-set-past limit ws n w h = sym (set_past (take limit ws) n w (simp length-take (omega arith)))
-
 pub views-set : (p : List ℕ) (ws us : List (Option Window)) (n : ℕ) (w : Option Window) → us ≡ set ws n w → map (view p) us ≡ set (map (view p) ws) n (view p w)
 views-set p ws us n w e = ap (map (view p)) e ∙ map-set (view p) ws n w
 
@@ -48,13 +48,6 @@ slot-low s n w e =
       | inl h ↦ h
       | inr h ↦ let z : ◌≡◌ {A = Option Window} None (Some w) = slot-past s.limit n s.windows None h ∙ e in absurd (false≢true (ap is_some z))
     ]
-
-none_is : {X : Type 0} (o : Option X) → is_some o ≡ false → o ≡ None
-none_is None e = refl
-none_is (Some w) e = absurd (true≢false e)
-
-pub slot-none : (s : Stack) (n : ℕ) (o : Option Window) → o ≡ get_or (slots_of s) n None → is_some o ≡ false → get_or (slots_of s) n None ≡ None
-slot-none s n o e h = sym e ∙ none_is o h
 
 -- the window n of a desk
 pub window-at : (s : Stack) (d : Desk) (p : List ℕ) (n : ℕ) → d.windows ≡ windows_of s p → window d n ≡ view p (get_or (slots_of s) n None)
@@ -69,3 +62,14 @@ window-at s d p n e =
 pub mine-by : (d : Desk) (c n : ℕ) (w : desk.Window) → w ≡ window d n → mine d c n ≡ (w.there && eqb w.owner c)
 unfolding mine
 mine-by d c n w e = ap (λ v. v.there && eqb v.owner c) (sym e)
+
+-- the window that a test of its owner lets through
+pub owned-by : (s : Stack) (c n : ℕ) (o r : Option Window) (says : Window → Bool → Type 0) → o ≡ get_or (slots_of s) n None →
+    ((d : Desk) (p : List ℕ) → d.windows ≡ windows_of s p → view p o ≡ window d n) →
+    MatchOption o (r ≡ None) (λ w. (b : Bool) × says w b × (r ≡ then_some b w)) → ((w : Window) (b : Bool) → says w b → b ≡ eqb w.owner c) → Owned s c n r
+owned-by s c n None r says e f m t = rw m (λ d p h. mine-by d c n _ (f d p h))
+owned-by s c n (Some w) r says e f m t = rw m.2 (go m.0 (t w m.0 m.1))
+  where
+    go : (b : Bool) → b ≡ eqb w.owner c → Owned s c n (then_some b w)
+    go true q = record { slot = sym e; low = slot-low s n w (sym e); owner = eqb-true w.owner c (sym q); mine = λ d p h. mine-by d c n _ (f d p h) ∙ sym q; value = λ d p h. sym (f d p h) }
+    go false q = λ d p h. mine-by d c n _ (f d p h) ∙ sym q

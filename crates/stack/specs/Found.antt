@@ -1,5 +1,5 @@
 -- What is said of a window that was looked for. d is any desk with the windows of the state.
-use Rattle.std.specs.Prelude.{◌≡◌, ℕ, suc, ◌<◌, true, false, List, ℤ, Some, None, Option, slice_index_or}
+use Rattle.std.specs.Prelude.{◌≡◌, ℕ, suc, ◌<◌, Bool, true, false, List, ℤ, Some, None, Option, slice_index_or, slice_set}
 use Rattle.model.specs.Desk.{Desk, window, mine, front, in_window}
 use Rattle.stack.specs.declared.state.Window.{Window}
 use Rattle.stack.specs.declared.state.Stack.{Stack}
@@ -17,6 +17,11 @@ pub record Own (s : Stack) (c n : ℕ) (w : Window) : Type 0 where
 abbrev pub Owned : Stack → ℕ → ℕ → Option Window → Type 0
 Owned s c n None = (d : Desk) (p : List ℕ) → d.windows ≡ windows_of s p → mine d c n ≡ false
 Owned s c n (Some w) = Own s c n w
+
+-- t is s after a change of the window n by a program c: where c owns it, `makes` holds of it and of what it is now; else nothing changes
+abbrev pub ChangedBy : (Window → Window → Type 0) → Stack → ℕ → ℕ → Bool → Stack → Type 0
+ChangedBy makes s c n true t = (w : Window) × (v : Window) × Own s c n w × makes w v × (slots_of t ≡ slice_set (slots_of s) n (Some v))
+ChangedBy makes s c n false t = Owned s c n None × (slots_of t ≡ slots_of s)
 
 -- w is the window n of s, and at the place x, y it is in front
 pub record Front (s : Stack) (x y : ℤ) (n : ℕ) (w : Window) : Type 0 where

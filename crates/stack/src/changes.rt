@@ -5,6 +5,7 @@ ghost use Rattle.model.specs.Desk.{Desk, mine};
 ghost use Rattle.model.specs.Desk.{window as window_of};
 ghost use Rattle.stack.specs.View.{slots_of, windows_of, order_of, placed, shown_as, put_at, put_on, packed, size_of};
 ghost use Rattle.stack.specs.View.{begun as begun_at};
+ghost use Rattle.stack.specs.Found.{ChangedBy};
 
 use crate::state::{Stack, Window};
 
@@ -21,6 +22,20 @@ fn begun(slot: Option<Window>, at: usize) -> (Option<Window>, usize)
 }
 
 impl Stack {
+    // The window n is what f makes of it from now on, where it is there and its owner is c; whether it is.
+    fn change<F: FnOnce(Window) -> Window>(&mut self, c: u8, n: u8, f: F) -> bool
+        requires { F.IsAlwaysCallable f }
+        ensures changed { ChangedBy (F.post f) self.old c n result self.new }
+        ensures order { order_of self.new ≡ order_of self.old }
+        ensures limit { self.new.limit ≡ self.old.limit }
+    {
+        let Some(w) = self.owned(c, n) else {
+            return false;
+        };
+        self.set_window(n, Some(f(w)));
+        true
+    }
+
     // The window n lies at x, y from now on, where it is there and its owner is c; whether it is.
     pub fn move_to(&mut self, c: u8, n: u8, x: i16, y: i16) -> bool
         ensures answer { (d : Desk) (p : List ℕ) → d.windows ≡ windows_of self.old p → result ≡ mine d c n }
@@ -29,11 +44,7 @@ impl Stack {
         ensures order { order_of self.new ≡ order_of self.old }
         ensures limit { self.new.limit ≡ self.old.limit }
     {
-        let Some(w) = self.owned(c, n) else {
-            return false;
-        };
-        self.set_window(n, Some(Window { x, y, ..w }));
-        true
+        self.change(c, n, |w| Window { x, y, ..w })
     }
 
     // The window n is shown or not from now on, where it is there and its owner is c; whether it is.
@@ -44,11 +55,7 @@ impl Stack {
         ensures order { order_of self.new ≡ order_of self.old }
         ensures limit { self.new.limit ≡ self.old.limit }
     {
-        let Some(w) = self.owned(c, n) else {
-            return false;
-        };
-        self.set_window(n, Some(Window { shown: on, ..w }));
-        true
+        self.change(c, n, |w| Window { shown: on, ..w })
     }
 
     // The pictures lie one after another from now on, in the order of the windows' numbers and without a gap.
@@ -61,6 +68,7 @@ impl Stack {
         for n in 0..self.limit {
             let old = self.slot(n);
             let (new, behind) = begun(old, at);
+            // By index: after a loop over &mut the proof would know nothing of the windows.
             self.windows[n] = new;
             at = behind;
         }

@@ -11,7 +11,7 @@ use crate::state::{Stack, Window};
 fn within(at: i16, from: i16, len: u16) -> bool
     ensures { result ≡ (int_le from at && int_lt at (from +ℤ pos len)) }
 {
-    from <= at && (at as i32) < from as i32 + len as i32
+    from <= at && i32::from(at) < i32::from(from) + i32::from(len)
 }
 
 impl Window {
@@ -28,8 +28,7 @@ impl Stack {
     pub fn front_window(&self, x: i16, y: i16) -> Option<(u8, Window)>
         ensures { Found self.now x y result }
     {
-        for i in (0..self.order.len).rev() {
-            let n = self.order.items[i];
+        for &n in self.order.as_slice().iter().rev() {
             let Some(w) = self.window(n) else {
                 continue;
             };
@@ -44,9 +43,6 @@ impl Stack {
     pub fn front_at(&self, x: i16, y: i16) -> Option<u8>
         ensures { (d : Desk) (p : List ℕ) → d.windows ≡ windows_of self.now p → numbered result ≡ front_of d (order_of self.now) x y }
     {
-        match self.front_window(x, y) {
-            Some((n, _)) => Some(n),
-            None => None,
-        }
+        self.front_window(x, y).map(|(n, _)| n)
     }
 }

@@ -13,15 +13,7 @@ impl Stack {
         ensures slots { slots_of self.new ≡ slots_of self.old }
         ensures limit { self.new.limit ≡ self.old.limit }
     {
-        let mut put = 0;
-        for i in 0..self.order.len {
-            let m = self.order.items[i];
-            if m != n {
-                self.order.items[put] = m;
-                put += 1;
-            }
-        }
-        self.order.len = put;
+        self.order.retain(|m| *m != n);
     }
 
     // Puts n in front of all, where the order has room for one more; whether it has.

@@ -17,6 +17,7 @@ pub struct Window {
 }
 
 // The windows by number, of which the first `limit` can be made, and the order, from the back to the front.
+// Contracts say of limit, slots and order one by one what stays: a proof above takes one of them, and a joint fact would have to be opened for it.
 #[derive(Clone, Copy)]
 pub struct Stack {
     pub limit: usize,

@@ -15,7 +15,7 @@ impl Window {
         ensures value { result ≡ self.now.wide * self.now.high }
         ensures small { result ≤ 65535 * 65535 }
     {
-        self.wide as u64 * self.high as u64
+        u64::from(self.wide) * u64::from(self.high)
     }
 
     // Its picture in the lent pictures.
@@ -35,10 +35,7 @@ fn dots_in(slot: Option<Window>) -> u64
     ensures value { (p : List ℕ) → result ≡ dots_used (view p slot) }
     ensures small { result ≤ 65535 * 65535 }
 {
-    match slot {
-        Some(w) => w.dots(),
-        None => 0,
-    }
+    slot.map_or(0, |w| w.dots())
 }
 
 impl Stack {
@@ -79,10 +76,7 @@ impl Stack {
     pub fn owned(&self, c: u8, n: u8) -> Option<Window>
         ensures { Owned self.now c n result }
     {
-        let Some(w) = self.window(n) else {
-            return None;
-        };
-        if w.owner == c { Some(w) } else { None }
+        self.window(n).filter(|w| w.owner == c)
     }
 
     // The window n is w from now on, or is not there any more; a number that can't be made stays without a window.
@@ -103,12 +97,10 @@ impl Stack {
         ensures none { slice_index_or (slots_of self.now) result None ≡ None }
         ensures most { result ≤ self.now.limit }
     {
-        for n in 0..self.limit {
-            if self.slot(n).is_none() {
-                return n as u8;
-            }
-        }
-        self.limit as u8
+        let free = self.windows[..self.limit]
+            .iter()
+            .position(|slot| slot.is_none());
+        free.unwrap_or(self.limit) as u8
     }
 
     // The dots of all pictures. 255 windows of 65,535 by 65,535 dots are the most that there can be, so the sum fits.
@@ -117,8 +109,8 @@ impl Stack {
         ensures small { result ≤ 65535 * 65535 * 255 }
     {
         let mut sum = 0;
-        for n in 0..self.limit {
-            sum += dots_in(self.slot(n));
+        for slot in &self.windows[..self.limit] {
+            sum += dots_in(*slot);
         }
         sum
     }

@@ -1,22 +1,15 @@
-use Rattle.std.proofs.Common.{arith}
+use Rattle.std.proofs.Common.{refl, arith}
 use Rattle.stack.specs.View.{slots_of}
-use Rattle.stack.proofs.Slots.{length-slots}
 use Rattle.stack.proofs.Areas.{area-step, area-end}
 use Rattle.stack.proofs.state.Stack.area_used.Goals as goal
 
-pub loop-n-preserved : goal.loop-n-preserved
-loop-n-preserved c =
-    let l = length-slots c.args.self.now in (
-      λ p.
-          let e = area-step p (slots_of c.args.self.now) c.loop-n.n c.slot.result (omega arith) c.slot.ensures in
-          omega (arith, c.loop-n.invariant.0 p, c.dots_in-sum.ensures.value p),
-      omega arith,
-    )
+pub loop-slot-preserved : goal.loop-slot-preserved
+loop-slot-preserved c = (
+  λ p.
+      let e = area-step p (slots_of c.args.self.now) c.loop-slot.slot-index _ c.loop-slot-test.true refl in
+      omega (arith, c.loop-slot.invariant.0 p, c.dots_in-sum.ensures.value p),
+  omega arith,
+)
 
-pub returns : goal.returns
-returns c =
-    let l = length-slots c.args.self.now in
-    record {
-      value = λ p. let e = area-end p (slots_of c.args.self.now) c.loop-n.n (omega arith) in omega (arith, c.loop-n.invariant.0 p);
-      small = omega arith;
-    }
+pub returns-clause-value : goal.returns-clause-value
+returns-clause-value c p = let e = area-end p (slots_of c.args.self.now) c.loop-slot.slot-index c.loop-slot-test.false in omega (arith, c.loop-slot.invariant.0 p)

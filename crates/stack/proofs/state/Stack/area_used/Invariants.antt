@@ -3,6 +3,6 @@ use Rattle.model.specs.Desk.{area}
 use Rattle.stack.specs.View.{view, slots_of, windows_of}
 use Rattle.stack.proofs.state.Stack.area_used.Given as goal
 
-abbrev pub invariant-loop-n : goal.invariant-loop-n
-invariant-loop-n l =
-    ((p : List ℕ) → l.sum + area (map (view p) (drop l.n (slots_of l.self))) ≡ area (windows_of l.self p)) × (l.sum ≤ 65535 * 65535 * l.n)
+abbrev pub invariant-loop-slot : goal.invariant-loop-slot
+invariant-loop-slot l =
+    ((p : List ℕ) → l.sum + area (map (view p) (drop l.slot-index (slots_of l.self))) ≡ area (windows_of l.self p)) × (l.sum ≤ 65535 * 65535 * l.slot-index)

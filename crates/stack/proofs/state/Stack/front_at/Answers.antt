@@ -1,17 +1,11 @@
-use Rattle.std.proofs.Common.{sym}
+use Rattle.std.proofs.Common.{rules}
 use Rattle.std.proofs.lemmas.Int.{to_z-of_z}
+use Rattle.stack.proofs.Fronts.{numbered-by}
 use Rattle.stack.proofs.state.Stack.front_at.Goals as goal
 
-pub returns-in-Some : goal.returns-in-Some
-returns-in-Some c d p h =
+pub returns : goal.returns
+returns c =
     let fx = c.ranges.x in
     let fy = c.ranges.y in
-    let e = simp to_z-of_z at (c.in-Some.ensures.front d p h) in
-    sym e
-
-pub returns-in-None : goal.returns-in-None
-returns-in-None c d p h =
-    let fx = c.ranges.x in
-    let fy = c.ranges.y in
-    let e = simp to_z-of_z at (c.in-None.ensures d p h) in
-    sym e
+    let e = simp to_z-of_z at c.front_window.ensures in
+    numbered-by c.args.self.now c.args.x c.args.y c.front_window.result c.map.result _ e c.map.ensures.cases (λ f n k. search rules)

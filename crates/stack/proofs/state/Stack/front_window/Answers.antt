@@ -1,50 +1,63 @@
-use Rattle.std.proofs.Common.{◌≡◌, true, false, sym, refl, ◌∙◌, arith, rules}
+use Rattle.std.proofs.Common.{true, false, length, sym, refl, ◌∙◌}
 use Rattle.std.proofs.lemmas.Int.{to_z-of_z}
-use Rattle.model.specs.Desk.{front, in_window, nothing}
+use Rattle.std.proofs.lemmas.List.{length_push, reverse-reverse}
+use Rattle.std.proofs.lemmas.Iterator.Adapters.{YieldsList-from_rev_slice}
+use Rattle.std.proofs.lemmas.Iterator.Consumers.{YieldsList-turn, YieldsList-end}
+use Rattle.model.specs.Desk.{in_window, nothing}
+use Rattle.stack.specs.View.{order_of}
 use Rattle.stack.proofs.Slots.{slot-low}
-use Rattle.stack.proofs.Fronts.{front-step}
+use Rattle.stack.proofs.Fronts.{front-turn, front-end}
 use Rattle.stack.proofs.state.Stack.front_window.Goals as goal
 
-pub loop-i-preserved-in_default : goal.loop-i-preserved-in_default
+pub loop-n-init : goal.loop-n-init
+loop-n-init c d p h = rw (reverse-reverse (order_of c.args.self.now)) refl
+
+pub loop-n-preserved-in_default : goal.loop-n-preserved-in_default
 unfolding in_window
-loop-i-preserved-in_default c d p h =
+loop-n-preserved-in_default c d p h =
     let fx = c.ranges.x in
     let fy = c.ranges.y in
-    let s = front-step d c.args.self.now.order.items c.loop-i.i c.args.x c.args.y nothing false (search rules) (search rules) (c.in_default.ensures.value d p h) refl in
-    let v = simp to_z-of_z at (c.loop-i.invariant d p h) in
-    simp to_z-of_z (sym s ∙ v)
+    let order = order_of c.args.self.now in
+    let t = YieldsList-turn (YieldsList-from_rev_slice order cc) c.loop-n.yielded _ c.loop-n.yielded_by _ _ c.in-Some.field-0 c.in-Some.is c.next.ensures.steps in
+    let s = front-turn d order (length c.loop-n.yielded) c.in-Some.field-0.now c.args.x c.args.y nothing false t (c.in_default.ensures.value d p h) refl in
+    let v = simp to_z-of_z at (c.loop-n.invariant d p h) in
+    simp to_z-of_z (rw (length_push c.loop-n.yielded c.in-Some.field-0) (sym s ∙ v))
 
 pub returns-then-covers : goal.returns-then-covers
 returns-then-covers c =
     let fx = c.ranges.x in
     let fy = c.ranges.y in
-    let f = c.in-Some.ensures in
+    let f = c.in-Some-window.ensures in
+    let order = order_of c.args.self.now in
+    let u = YieldsList-turn (YieldsList-from_rev_slice order cc) c.loop-n.yielded _ c.loop-n.yielded_by _ _ c.in-Some.field-0 c.in-Some.is c.next.ensures.steps in
     record {
       slot = sym f.slot;
-      low = slot-low c.args.self.now _ c.in-Some.w (sym f.slot);
+      low = slot-low c.args.self.now _ c.in-Some-window.w (sym f.slot);
       front = λ d p h.
           let t = simp to_z-of_z at (c.if-covers.ensures p) in
-          let s = front-step d c.args.self.now.order.items c.loop-i.i c.args.x c.args.y _ true (search rules) (search rules) (f.value d p h) t in
-          let v = simp to_z-of_z at (c.loop-i.invariant d p h) in
+          let s = front-turn d order (length c.loop-n.yielded) c.in-Some.field-0.now c.args.x c.args.y _ true u (f.value d p h) t in
+          let v = simp to_z-of_z at (c.loop-n.invariant d p h) in
           sym v ∙ s;
       value = λ d p h. sym (f.value d p h);
       covers = λ p. let t = simp to_z-of_z at (c.if-covers.ensures p) in sym t;
     }
 
-pub loop-i-preserved : goal.loop-i-preserved
-loop-i-preserved c d p h =
+pub loop-n-preserved : goal.loop-n-preserved
+loop-n-preserved c d p h =
     let fx = c.ranges.x in
     let fy = c.ranges.y in
+    let order = order_of c.args.self.now in
+    let u = YieldsList-turn (YieldsList-from_rev_slice order cc) c.loop-n.yielded _ c.loop-n.yielded_by _ _ c.in-Some.field-0 c.in-Some.is c.next.ensures.steps in
     let t = simp to_z-of_z at (c.if-covers.ensures p) in
-    let s = front-step d c.args.self.now.order.items c.loop-i.i c.args.x c.args.y _ false (search rules) (search rules) (c.in-Some.ensures.value d p h) t in
-    let v = simp to_z-of_z at (c.loop-i.invariant d p h) in
-    simp to_z-of_z (sym s ∙ v)
+    let s = front-turn d order (length c.loop-n.yielded) c.in-Some.field-0.now c.args.x c.args.y _ false u (c.in-Some-window.ensures.value d p h) t in
+    let v = simp to_z-of_z at (c.loop-n.invariant d p h) in
+    simp to_z-of_z (rw (length_push c.loop-n.yielded c.in-Some.field-0) (sym s ∙ v))
 
 pub returns : goal.returns
-unfolding front
 returns c d p h =
     let fx = c.ranges.x in
     let fy = c.ranges.y in
-    let z : c.loop-i.i ≡ 0 = omega arith in
-    let v = simp (to_z-of_z, z) at (c.loop-i.invariant d p h) in
-    sym v
+    let order = order_of c.args.self.now in
+    let t = YieldsList-end (YieldsList-from_rev_slice order cc) c.loop-n.yielded _ c.loop-n.yielded_by _ _ c.in-None.is c.next.ensures.steps in
+    let v = simp to_z-of_z at (c.loop-n.invariant d p h) in
+    sym v ∙ front-end d order (length c.loop-n.yielded) c.args.x c.args.y t.1

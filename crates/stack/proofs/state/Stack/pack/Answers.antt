@@ -19,13 +19,9 @@ loop-n-preserved c =
       v.4,
     )
 
-pub returns : goal.returns
-returns c =
+pub returns-clause-slots : goal.returns-clause-slots
+returns-clause-slots c =
     let v = c.loop-n.invariant in
     let ws = c.args.self.now.windows in
     let k : c.loop-n.n ≡ c.args.self.now.limit = omega (arith, v.3) in
-    record {
-      slots = ap (λ m. take m c.loop-n.self.windows) v.3 ∙ ap (take c.args.self.now.limit) (v.0 ∙ ap (λ m. packing m 0 ws) k) ∙ packing-all c.args.self.now.limit 0 ws;
-      order = rw v.4;
-      limit = v.3;
-    }
+    ap (λ m. take m c.loop-n.self.windows) v.3 ∙ ap (take c.args.self.now.limit) (v.0 ∙ ap (λ m. packing m 0 ws) k) ∙ packing-all c.args.self.now.limit 0 ws
