@@ -3,9 +3,9 @@ ghost use Rattle.std.specs.Prelude.{◌≤◌, length};
 ghost use Rattle.layout.specs.Head.{clip_at, head_end};
 ghost use Rattle.layout.specs.Loads.{Clipping};
 
-use crate::halves::halves;
 use crate::state::Clipboard;
 use crate::{bytes, head, order};
+use halves::halves;
 
 // The clipboard, from its word and its bytes.
 pub(crate) fn load_clip(work: &[u32], w: u32) -> Option<Clipboard>

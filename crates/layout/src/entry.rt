@@ -5,9 +5,9 @@ ghost use Rattle.layout.specs.Head.{entry, entry_at, table_at, low, high};
 ghost use Rattle.layout.specs.Head.{place as place_of, flagged as flagged_of, shaped as shaped_of};
 ghost use Rattle.layout.specs.Stored.{bare};
 
-use crate::halves::{halves, word_of};
 use crate::head::TABLE;
 use crate::sizes::Sizes;
+use halves::{halves, word};
 use stack::state::Window;
 
 // The three words of a window.
@@ -45,7 +45,7 @@ pub(crate) fn place_word(x: i16, y: i16) -> u32
     ensures across { place_of (low result) ≡ x }
     ensures down { place_of (high result) ≡ y }
 {
-    word_of(bias(x), bias(y))
+    word(bias(x), bias(y))
 }
 
 // The window that three words hold.
@@ -84,7 +84,7 @@ fn pack(slot: Option<Window>) -> Entry
     Entry {
         flags: u32::from_le_bytes([w.owner, u8::from(w.shown), 1, 0]),
         place: place_word(w.x, w.y),
-        sides: word_of(w.wide, w.high),
+        sides: word(w.wide, w.high),
     }
 }
 

@@ -6,7 +6,6 @@ mod bytes;
 mod clip;
 mod entry;
 pub mod fresh;
-mod halves;
 mod head;
 pub mod laws;
 pub mod load;

@@ -5,8 +5,8 @@ ghost use Rattle.stack.specs.View.{slots_of, order_of, numbered};
 ghost use Rattle.layout.specs.Head.{bytes_in, orderly, each, order_at, head_end};
 ghost use Rattle.layout.specs.Loads.{Tallied, Hand, Handed};
 
-use crate::halves::halves;
 use crate::{bytes, head};
+use halves::halves;
 use stack::state::{Stack, Window};
 
 // Reads an order of `count` numbers.

@@ -4,10 +4,10 @@ ghost use Rattle.stack.specs.View.{numbered};
 ghost use Rattle.layout.specs.Sizes.{sizes_of};
 ghost use Rattle.layout.specs.Stored.{Fronted, Storing};
 
-use crate::halves::word_of;
 use crate::sizes::Sizes;
 use crate::state::State;
 use crate::{bytes, entry, head, table};
+use halves::word;
 
 // A number as it is stored: one more, or 0.
 fn plus_one(n: Option<u8>) -> u16
@@ -22,8 +22,8 @@ fn front_words(z: Sizes, s: &State) -> [u32; 10]
     ensures { Fronted z s.now result }
 {
     let pointer = entry::place_word(s.x, s.y);
-    let hands = word_of(plus_one(s.keys), plus_one(s.held));
-    let clip = word_of(s.clip.bytes.len as u16, plus_one(s.clip.owner));
+    let hands = word(plus_one(s.keys), plus_one(s.held));
+    let clip = word(s.clip.bytes.len as u16, plus_one(s.clip.owner));
     let count = s.stack.order.len as u32;
     [
         z.wide, z.high, z.windows, z.programs, z.side, z.dots, pointer, hands, clip, count,
