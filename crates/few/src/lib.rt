@@ -1,7 +1,7 @@
 // A short list in an array: what a Vec is where no memory may be asked for.
 #![tactic(auto)]
 
-ghost use Rattle.std.specs.Prelude.{◌≡◌, ℕ, [], ◌∷◌, ◌++◌, length, is_some, IfSome, nat_lt, nat_le};
+ghost use Rattle.std.specs.Prelude.{◌≡◌, [], ◌∷◌, ◌++◌, length, is_some, IfSome, nat_lt, nat_le};
 ghost use Rattle.few.specs.Held.{held, pick};
 
 mod list;
