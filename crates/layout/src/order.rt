@@ -1,5 +1,5 @@
 // The stacking order in the lent work.
-ghost use Rattle.std.specs.Prelude.{◌≡◌, ◌+◌, ◌-◌, ◌*◌, ◌<◌, ◌≤◌, true, false, ◌&&◌, ◌||◌, [], length, is_some, Some, None, nat_eq, slice_index, slice_index_or};
+ghost use Rattle.std.specs.Prelude.{◌≡◌, ◌≤◌, false, length, is_some, Some, None, nat_eq, slice_index, slice_index_or};
 ghost use Rattle.model.specs.Basics.{bit};
 ghost use Rattle.stack.specs.View.{slots_of, order_of, numbered};
 ghost use Rattle.layout.specs.Head.{bytes_in, orderly, each, order_at, head_end};
