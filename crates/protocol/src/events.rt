@@ -1,4 +1,5 @@
 // One reader a kind of event. Each is called where the fields of the kind come next.
+// (`Close` and `Raise` differ in the kind alone; what they would share is two fields, and a helper for those is no shorter.)
 ghost use Rattle.protocol.specs.Next.{ReadEvent};
 
 use crate::kinds::Kind;

@@ -158,6 +158,8 @@ impl Reader<'_> {
     }
 }
 
+// One function for each width: the library has one for each too, and a generic one over them would be no shorter.
+
 // The number in the two bytes from the byte `at` on.
 #[tactic(auto, using(crate::proofs::Digits::number_two))]
 fn two_at(bytes: &[u8], at: usize) -> u16

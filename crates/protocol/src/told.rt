@@ -1,4 +1,5 @@
 // One reader a kind of word. Each is called where the fields of the kind come next.
+// (`No` and `Done` differ in the word alone; what they would share is one line.)
 ghost use Rattle.protocol.specs.Next.{ReadWord};
 
 use crate::kinds::WordKind;
