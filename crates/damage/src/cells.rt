@@ -1,6 +1,5 @@
 // The cells of the grid that are damaged, each written with its dots. The words go into a lent slice of which the part up to `at` is written.
-ghost use Rattle.std.specs.Prelude.{◌≡◌, ℕ, ◌+◌, ◌-◌, ◌*◌, ◌<◌, ◌≤◌, true, [], ◌∷◌, length, pos, ◌-ℤ◌, int_le};
-ghost use Rattle.std.specs.Int.Signed.{mag};
+ghost use Rattle.std.specs.Prelude.{◌≡◌, ℕ, ◌+◌, ◌-◌, ◌*◌, ◌<◌, ◌≤◌, [], ◌∷◌, length};
 ghost use Rattle.model.specs.System.{front_at};
 ghost use Rattle.model.specs.Grid.{sides};
 ghost use Rattle.model.specs.Grid.{cell as cell_at};
@@ -12,16 +11,9 @@ ghost use Rattle.damage.specs.Scenes.{in_scene, written};
 use crate::head::Head;
 use crate::scene::Scene;
 use crate::types::Dot;
-use geometry::Rect;
-use pixels::{Picture, Span};
+use geometry::{Rect, past};
+use pixels::Span;
 use stack::state::Window;
-
-// How far the place i lies past x, where it does.
-fn past(i: u16, x: i16) -> usize
-    ensures { int_le x (pos i) ≡ true → result ≡ mag (pos i -ℤ x) }
-{
-    (i as i32 - x as i32).unsigned_abs() as usize
-}
 
 // A box of the screen that has columns, and the window that lies over all of it, or none.
 #[derive(Clone, Copy)]
@@ -44,17 +36,12 @@ impl Pane<'_> {
         let wide = self.cell.wide() as usize;
         match self.front {
             Some(w) => {
-                let picture = Picture {
-                    at: w.at,
-                    wide: w.wide as usize,
-                    high: w.high as usize,
-                };
                 let span = Span {
                     x: past(self.cell.left, w.x),
                     y: past(j, w.y),
                     wide,
                 };
-                let _ = pixels::copy_out(self.pictures, picture, span, sent, at);
+                let _ = pixels::copy_out(self.pictures, w.picture(), span, sent, at);
                 at + wide
             }
             None => {

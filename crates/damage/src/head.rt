@@ -2,6 +2,8 @@
 ghost use Rattle.std.specs.Prelude.{◌≡◌, ◌+◌, ◌*◌, ◌/◌, ◌%◌};
 ghost use Rattle.damage.specs.Screen.{head_of, lies_on};
 
+use halves::{halves, word};
+
 // The size of a screen.
 #[derive(Clone, Copy)]
 pub(crate) struct Size {
@@ -16,21 +18,6 @@ pub(crate) struct Head {
     pub(crate) y: u16,
     pub(crate) wide: u16,
     pub(crate) high: u16,
-}
-
-// The two numbers of a word, the first in its lower half.
-fn halves(word: u32) -> (u16, u16)
-    ensures low { result.0 ≡ word % 65536 }
-    ensures high { result.1 ≡ word / 65536 }
-{
-    ((word % 65536) as u16, (word / 65536) as u16)
-}
-
-// The word of two numbers.
-fn joined(low: u16, high: u16) -> u32
-    ensures { result ≡ low + 65536 * high }
-{
-    low as u32 + 65536 * high as u32
 }
 
 impl Head {
@@ -48,7 +35,7 @@ impl Head {
         ensures place { result.0 ≡ self.x + 65536 * self.y }
         ensures size { result.1 ≡ self.wide + 65536 * self.high }
     {
-        (joined(self.x, self.y), joined(self.wide, self.high))
+        (word(self.x, self.y), word(self.wide, self.high))
     }
 
     // How many dots the box has.

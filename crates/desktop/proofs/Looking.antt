@@ -5,11 +5,10 @@ use Rattle.model.specs.Desk as desk
 use Rattle.model.specs.Desk.{Desk, window, front, dot, dot_of, in_window}
 use Rattle.pixels.specs.Pictures as pixels
 use Rattle.pixels.specs.declared.Picture.{Picture}
-use Rattle.stack.specs.View.{view, order_of}
+use Rattle.stack.specs.View.{view, order_of, picture_of}
 use Rattle.stack.specs.declared.state.Window.{Window}
 use Rattle.layout.specs.State.{desk_of}
 use Rattle.layout.specs.declared.state.State.{State}
-use Rattle.desktop.specs.Painting.{picture_of}
 
 pub left-of : (p : List ℕ) (w : Window) (x y : ℤ) → in_window (view p (Some w)) x y ≡ true → le_z w.x x ≡ true
 unfolding in_window

@@ -16,7 +16,7 @@ use Rattle.pixels.specs.declared.Picture.{Picture}
 use Rattle.pixels.specs.declared.Area.{Area}
 use Rattle.pixels.specs.Colours.{colours_in, colour_at, put_fits}
 use Rattle.pixels.proofs.Laws.{colours-length, colours-place, fits-yes, copy_fits-yes, put_fits-yes}
-use Rattle.stack.specs.View.{view, dots_of, slots_of, windows_of, begun, size_of}
+use Rattle.stack.specs.View.{view, dots_of, picture_of, slots_of, windows_of, begun, size_of}
 use Rattle.stack.specs.declared.state.Window.{Window}
 use Rattle.stack.proofs.Packing.{ending}
 use Rattle.stack.proofs.Packed.{packed-same, begins-at, ending-next, ending-area, painted-views}
@@ -25,7 +25,7 @@ use Rattle.layout.specs.State.{desk_of, Good}
 use Rattle.layout.specs.declared.sizes.Sizes.{Sizes}
 use Rattle.layout.specs.declared.state.State.{State}
 use Rattle.desktop.specs.Does.{CarriedOut, answered}
-use Rattle.desktop.specs.Painting.{picture_of, area_at, span_at}
+use Rattle.desktop.specs.Painting.{area_at, span_at}
 use Rattle.desktop.proofs.Carrying.{carried-to}
 use Rattle.desktop.proofs.Arranging.{desk-with}
 

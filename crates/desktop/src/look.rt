@@ -4,7 +4,6 @@ ghost use Rattle.std.specs.Int.Signed.{mag};
 ghost use Rattle.model.specs.Desk.{dot};
 ghost use Rattle.layout.specs.State.{desk_of};
 
-use crate::paint::picture;
 use layout::state::State;
 
 // How far the place i lies past x, where it does.
@@ -24,5 +23,5 @@ pub fn dot_at(s: &State, pictures: &[u32], i: u16, j: u16) -> u32
     let Some((_, w)) = s.stack.front_window(i as i16, j as i16) else {
         return 0;
     };
-    pixels::dot(pictures, picture(w), past(i, w.x), past(j, w.y))
+    pixels::dot(pictures, w.picture(), past(i, w.x), past(j, w.y))
 }

@@ -9,25 +9,14 @@ ghost use Rattle.stack.specs.View.{view};
 ghost use Rattle.layout.specs.Sizes.{sizes_of};
 ghost use Rattle.layout.specs.State.{Good};
 ghost use Rattle.desktop.specs.Does.{CarriedOut};
-ghost use Rattle.desktop.specs.Painting.{picture_of, area_at};
+ghost use Rattle.desktop.specs.Painting.{area_at};
 
 use crate::told::{Told, answer};
 use layout::sizes::Sizes;
 use layout::state::State;
-use pixels::{Area, Picture, Span};
+use pixels::{Area, Span};
 use protocol::{Part, Patch};
 use stack::state::Window;
-
-// A window's picture in the lent pictures.
-pub fn picture(w: Window) -> Picture
-    ensures { result ≡ picture_of w }
-{
-    Picture {
-        at: w.at,
-        wide: w.wide as usize,
-        high: w.high as usize,
-    }
-}
 
 // Whether a box lies in a window: its corner is a dot of the window, and its sides don't pass the window's.
 pub fn has_box(w: Window, patch: Patch) -> bool
@@ -76,7 +65,7 @@ pub fn fill(
     if !has_box(w, patch) {
         return answer(program, false);
     }
-    let _ = pixels::fill(pictures, picture(w), area(patch), colour);
+    let _ = pixels::fill(pictures, w.picture(), area(patch), colour);
     answer(program, true)
 }
 
@@ -100,7 +89,7 @@ pub fn copy(
     }
     let _ = pixels::copy(
         pictures,
-        picture(w),
+        w.picture(),
         area(patch),
         to_x as usize,
         to_y as usize,
@@ -138,6 +127,6 @@ pub fn put(
         y: y as usize,
         wide: colours.count as usize,
     };
-    let _ = pixels::put(pictures, picture(w), span, call, colours.from);
+    let _ = pixels::put(pictures, w.picture(), span, call, colours.from);
     answer(program, true)
 }

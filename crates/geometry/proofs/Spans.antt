@@ -1,53 +1,18 @@
--- Spans of columns or rows: those that lie in two, and those of a screen that lie in a signed one.
-use Rattle.std.proofs.Common.{◌≡◌, ℕ, ◌+◌, ◌-◌, ◌<◌, ◌≤◌, min, max, Bool, true, false, ◌&&◌, ltb, leb, ℤ, pos, ◌+ℤ◌, sym, refl, ap, ◌∙◌, ap₂, inl, inr, arith}
-use lib.Signed.{lt_z, le_z}
+-- What the boxes are in the words of the desk, and two pairs of tests in the other order.
+use Rattle.std.proofs.Common.{◌≡◌, ℕ, ◌+◌, ◌-◌, ◌<◌, ◌≤◌, Bool, true, false, ◌&&◌, ltb, leb, sym, refl, ap, ◌∙◌, ap₂, inl, inr, arith}
 use Rattle.std.proofs.lemmas.Bool.{true≢false}
 use Rattle.std.proofs.lemmas.Bool.Decides.{nat_tests}
 use Rattle.model.specs.Basics.{in_box}
 use Rattle.model.specs.Desk.{in_window}
 use Rattle.geometry.specs.declared.Rect.{Rect}
-use Rattle.geometry.specs.Boxes.{in_rect, in_placed, on_screen, Neat}
+use Rattle.geometry.specs.Boxes.{in_rect}
 use Rattle.geometry.specs.Meaning.{IsBox, IsWindow, SameRect}
 
-pub span-meet : (a b c d i : ℕ) → (leb (max a c) i && ltb i (min b d)) ≡ ((leb a i && ltb i b) && (leb c i && ltb i d))
-span-meet a b c d i = grind (arith, nat_tests)
-
-and-four : (p q r s : Bool) → ((p && q) && (r && s)) ≡ ((p && r) && (q && s))
+pub and-four : (p q r s : Bool) → ((p && q) && (r && s)) ≡ ((p && r) && (q && s))
 and-four true true r s = refl
 and-four true false true s = refl
 and-four true false false s = refl
 and-four false q r s = refl
-
-pub rect-meet : (a b c d e f g h i j : ℕ) →
-    ((leb (max a e) i && ltb i (min b f)) && (leb (max c g) j && ltb j (min d h)))
-    ≡ (((leb a i && ltb i b) && (leb c j && ltb j d)) && ((leb e i && ltb i f) && (leb g j && ltb j h)))
-rect-meet a b c d e f g h i j =
-    ap₂ (λ y z. y && z) (span-meet a b e f i) (span-meet c d g h j) ∙ and-four (leb a i && ltb i b) (leb e i && ltb i f) (leb c j && ltb j d) (leb g j && ltb j h)
-
-pub neat-more : (a b c d : ℕ) (r : Rect) → Neat a b r → a ≤ c → b ≤ d → Neat c d r
-neat-more a b c d r (inl e) h k = inl e
-neat-more a b c d r (inr p) h k = inr (record { wide = p.wide; on_right = omega arith; high = p.high; on_below = omega arith })
-
--- a span of a screen, by the two ends that were found
-pub span-clip : (l r limit i : ℕ) (x z : ℤ) → r ≤ limit → (i < limit → leb l i ≡ le_z x (pos i)) → (i < limit → ltb i r ≡ lt_z (pos i) z) →
-    (leb l i && ltb i r) ≡ (ltb i limit && (le_z x (pos i) && lt_z (pos i) z))
-span-clip l r limit i x z h f g = by-test (ltb i limit) refl
-  where
-    by-test : (b : Bool) → ltb i limit ≡ b → (leb l i && ltb i r) ≡ (ltb i limit && (le_z x (pos i) && lt_z (pos i) z))
-    by-test true e =
-        let lt : i < limit = grind (arith, nat_tests) in
-        ap₂ (λ y w. y && w) (f lt) (g lt) ∙ ap (λ y. y && (le_z x (pos i) && lt_z (pos i) z)) (sym e)
-    by-test false e =
-        let no : (leb l i && ltb i r) ≡ false = grind (arith, nat_tests) in
-        no ∙ ap (λ y. y && (le_z x (pos i) && lt_z (pos i) z)) (sym e)
-
--- two spans make a box
-pub spans-clip : (p q : Bool) (across down i j : ℕ) (x y x' y' : ℤ) (w h : ℕ) → x' ≡ x → y' ≡ y →
-    p ≡ (ltb i across && (le_z x' (pos i) && lt_z (pos i) (x' +ℤ pos w))) → q ≡ (ltb j down && (le_z y' (pos j) && lt_z (pos j) (y' +ℤ pos h))) →
-    (p && q) ≡ (on_screen across down i j && in_placed x y w h i j)
-spans-clip p q across down i j x y x' y' w h e f g k =
-    ap₂ (λ a b. a && b) (g ∙ ap (λ (z : ℤ). ltb i across && (le_z z (pos i) && lt_z (pos i) (z +ℤ pos w))) e) (k ∙ ap (λ (z : ℤ). ltb j down && (le_z z (pos j) && lt_z (pos j) (z +ℤ pos h))) f)
-    ∙ and-four (ltb i across) (le_z x (pos i) && lt_z (pos i) (x +ℤ pos w)) (ltb j down) (le_z y (pos j) && lt_z (pos j) (y +ℤ pos h))
 
 -- the statements of `meaning`
 pub is-box : IsBox

@@ -2,14 +2,15 @@
 // A dot is its column i and its row j, both counted from 0 at the upper left.
 #![tactic(auto)]
 
-ghost use Rattle.std.specs.Prelude.{◌≡◌, ℕ, ◌+◌, ◌-◌, ◌<◌, ◌≤◌, ◌&&◌, pos, ◌+ℤ◌, int_le, int_lt, nat_le, nat_lt};
+ghost use Rattle.std.specs.Prelude.{◌≡◌, ℕ, ◌+◌, ◌-◌, ◌<◌, ◌≤◌, true, ◌&&◌, pos, ◌+ℤ◌, ◌-ℤ◌, int_le, int_lt, nat_le, nat_lt};
+ghost use Rattle.std.specs.Int.Signed.{mag};
 ghost use Rattle.model.specs.Desk.{clamp};
 ghost use Rattle.geometry.specs.Boxes.{in_rect, on_screen, in_placed, Neat, Touching, Empty};
 ghost use Rattle.geometry.specs.Meaning.{IsBox, IsWindow, SameRect};
 
 // A box of dots: from the column `left` up to `right`, and from the row `top` up to `below`, both left out.
 // Where `right` is not past `left`, or `below` not past `top`, it has no dots.
-#[derive(Clone, Copy)]
+#[derive(Clone, Copy, PartialEq, Eq, Debug)]
 pub struct Rect {
     pub left: u16,
     pub top: u16,
@@ -51,7 +52,7 @@ impl Rect {
     pub fn contains(self, i: u16, j: u16) -> bool
         ensures { result ≡ in_rect self i j }
     {
-        self.left <= i && i < self.right && self.top <= j && j < self.below
+        (self.left..self.right).contains(&i) && (self.top..self.below).contains(&j)
     }
 
     // The dots that both boxes have.
@@ -98,13 +99,7 @@ fn bound(a: i32, limit: u16) -> u16
     ensures from { (i : ℕ) → i < limit → nat_le result i ≡ int_le a (pos i) }
     ensures upto { (i : ℕ) → i < limit → nat_lt i result ≡ int_lt (pos i) a }
 {
-    if a < 0 {
-        0
-    } else if a > limit as i32 {
-        limit
-    } else {
-        a as u16
-    }
+    a.clamp(0, i32::from(limit)) as u16
 }
 
 // The places from 0 up to `limit` that lie in `len` places from `from` on: from the first answer up to the second.
@@ -112,9 +107,8 @@ fn span(from: i16, len: u16, limit: u16) -> (u16, u16)
     ensures within { result.1 ≤ limit }
     ensures places { (i : ℕ) → (nat_le result.0 i && nat_lt i result.1) ≡ (nat_lt i limit && (int_le from (pos i) && int_lt (pos i) (from +ℤ pos len))) }
 {
-    let first = bound(from as i32, limit);
-    let end = bound(from as i32 + len as i32, limit);
-    (first, end)
+    let start = i32::from(from);
+    (bound(start, limit), bound(start + i32::from(len), limit))
 }
 
 // The dots of the screen that lie in a window of `wide` by `high` dots, whose upper left dot is at the place x, y.
@@ -127,24 +121,26 @@ pub fn clip(x: i16, y: i16, wide: u16, high: u16, across: u16, down: u16) -> Rec
     neat(left, top, right, below)
 }
 
+// How far the place i lies past x, where it does.
+pub fn past(i: u16, x: i16) -> usize
+    ensures { int_le x (pos i) ≡ true → result ≡ mag (pos i -ℤ x) }
+{
+    i32::from(i).abs_diff(i32::from(x)) as usize
+}
+
 // The place a, or else the nearest of the n places from 0 on (0 where there are none).
 pub fn nearest(a: i16, n: u16) -> i16
     ensures { result ≡ clamp a n }
 {
-    if a < 0 {
-        0
-    } else if a as u16 >= n {
-        n.saturating_sub(1) as i16
-    } else {
-        a
-    }
+    a.max(0)
+        .unsigned_abs()
+        .min(n.saturating_sub(1))
+        .cast_signed()
 }
 
 // What the boxes here are in the words of the desk.
-pub fn meaning() -> u8
+pub fn meaning()
     ensures boxed { IsBox }
     ensures windows { IsWindow }
     ensures same { SameRect }
-{
-    0
-}
+{}

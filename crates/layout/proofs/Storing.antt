@@ -83,7 +83,7 @@ whole work size p =
 
 -- the first words, the bytes and the entries of a work are those of a state
 module _ (z : Sizes) (s : State) (w f : List ℕ) (front : Fronted z s f) (first : (k : ℕ) → k < 10 → word w k ≡ get_or f k 0)
-    (order : bytes_in w order_at s.stack.count ≡ order_of s.stack) (clip : bytes_in w clip_at s.clip.len ≡ clip_in s)
+    (order : bytes_in w order_at s.stack.order.len ≡ order_of s.stack) (clip : bytes_in w clip_at s.clip.len ≡ clip_in s)
     (table : (n : ℕ) → n < s.stack.limit → entry_at w table_at n ≡ bare (get_or (slots_of s.stack) n None))
     (flags : (n : ℕ) → n < s.stack.limit → flagged (word w (table_at + 3 * n)) ≡ true) where
   windows-is : word w 2 ≡ z.windows
@@ -137,7 +137,7 @@ module _ (z : Sizes) (s : State) (w f : List ℕ) (front : Fronted z s f) (first
       let there : (n : ℕ) → (get_or (map (view []) os) n nothing).there ≡ is_some (get_or os n None) = λ n. ap (λ (v : desk.Window). v.there) (view-at [] os n) ∙ view-there [] (get_or os n None) in
       whole w size (record {
         room = room-is w size (ap (λ y. start_refusal y size (length w)) laid-sizes ∙ starts-not (sizes_of z) size (length w) (record { fits = g.sizes; dots = g.room; room = room }));
-        count = omega (arith, first 9 (omega arith), front.count, s.stack.few);
+        count = omega (arith, first 9 (omega arith), front.count, s.stack.order.most);
         entries = each-true (λ n. flagged (word w (table_at + 3 * n)) && shaped (sizes_in w) (entry_at w table_at n)) (word w 2) (λ n h.
             let l : n < s.stack.limit = omega (arith, windows-is, g.limit) in
             and_from (flagged (word w (table_at + 3 * n))) (shaped (sizes_in w) (entry_at w table_at n)) (flags n l)
@@ -157,8 +157,8 @@ pub stored : (z : Sizes) (s : State) (w0 w1 w2 w3 w4 f : List ℕ) → Fronted z
     ((k : ℕ) → (k < table_at) ⊎ (table_at + 3 * s.stack.limit ≤ k) → get_or w1 k 0 ≡ get_or w0 k 0) →
     bytes_in w2 clip_at s.clip.len ≡ clip_in s →
     ((k : ℕ) → (k < clip_at) ⊎ (clip_at + (s.clip.len + 3) / 4 ≤ k) → get_or w2 k 0 ≡ get_or w1 k 0) →
-    bytes_in w3 order_at s.stack.count ≡ order_of s.stack →
-    ((k : ℕ) → (k < order_at) ⊎ (order_at + (s.stack.count + 3) / 4 ≤ k) → get_or w3 k 0 ≡ get_or w2 k 0) →
+    bytes_in w3 order_at s.stack.order.len ≡ order_of s.stack →
+    ((k : ℕ) → (k < order_at) ⊎ (order_at + (s.stack.order.len + 3) / 4 ≤ k) → get_or w3 k 0 ≡ get_or w2 k 0) →
     ((k : ℕ) → k < length f → get_or w4 k 0 ≡ get_or f k 0) →
     ((k : ℕ) → length f ≤ k → get_or w4 k 0 ≡ get_or w3 k 0) →
     Stored (sizes_of z) s w0 w4
@@ -175,13 +175,13 @@ stored z s w0 w1 w2 w3 w4 f front long t tf tr c cr o or h r =
     first k l = h k (omega (arith, front.long))
 
     mid : (k : ℕ) → 74 ≤ k → get_or w4 k 0 ≡ get_or w2 k 0
-    mid k l = r k (omega (arith, front.long)) ∙ or k (inr (omega (arith, s.stack.few)))
+    mid k l = r k (omega (arith, front.long)) ∙ or k (inr (omega (arith, s.stack.order.most)))
 
     late : (k : ℕ) → 1098 ≤ k → get_or w4 k 0 ≡ get_or w1 k 0
     late k l = mid k (omega arith) ∙ cr k (inr (omega (arith, s.clip.few)))
 
-    order : bytes_in w4 order_at s.stack.count ≡ order_of s.stack
-    order = bytes_same w4 w3 order_at s.stack.count (λ k l m. r k (omega (arith, front.long))) ∙ o
+    order : bytes_in w4 order_at s.stack.order.len ≡ order_of s.stack
+    order = bytes_same w4 w3 order_at s.stack.order.len (λ k l m. r k (omega (arith, front.long))) ∙ o
 
     clip : bytes_in w4 clip_at s.clip.len ≡ clip_in s
     clip = bytes_same w4 w2 clip_at s.clip.len (λ k l m. mid k l) ∙ c

@@ -30,7 +30,7 @@ pub record Fronted (z : Sizes) (s : State) (f : List ℕ) : Type 0 where
   pub len : low (slice_index f 8) ≡ s.clip.len
   pub owner : high (slice_index f 8) ≡ numbered s.clip.owner
   pub owner_small : high (slice_index f 8) ≤ 256
-  pub count : slice_index_or f 9 0 ≡ s.stack.count
+  pub count : slice_index_or f 9 0 ≡ s.stack.order.len
 
 -- after a store the work holds the sizes and the state: the desk, where it has as many places for windows as the sizes say and the pictures are packed, and
 -- a good state passes the tests again where the work has room. What lies behind the head is as it was

@@ -29,8 +29,8 @@ fn tally(s: &Stack) -> Option<[u8; 255]>
     ensures { Tallied s.now.limit (order_of s.now) result }
 {
     let mut seen = [0; 255];
-    for i in 0..s.count {
-        let n = s.order[i] as usize;
+    for i in 0..s.order.len {
+        let n = s.order.items[i] as usize;
         if n >= s.limit {
             return None;
         }

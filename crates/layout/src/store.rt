@@ -36,7 +36,7 @@ fn front_words(z: Sizes, s: &State) -> [u32; 10]
     let pointer = entry::place_word(s.x, s.y);
     let hands = halves(plus_one(s.keys), plus_one(s.held));
     let clip = halves(s.clip.len as u32, plus_one(s.clip.owner));
-    let count = s.stack.count as u32;
+    let count = s.stack.order.len as u32;
     [
         z.wide, z.high, z.windows, z.programs, z.side, z.dots, pointer, hands, clip, count,
     ]
@@ -61,7 +61,7 @@ pub fn store(z: Sizes, s: &State, work: &mut [u32]) -> bool
     }
     table::store_table(&s.stack, work, head::TABLE);
     bytes::store_bytes(&s.clip.bytes, s.clip.len, work, head::CLIP_BYTES);
-    bytes::store_bytes(&s.stack.order, s.stack.count, work, head::ORDER);
+    bytes::store_bytes(&s.stack.order.items, s.stack.order.len, work, head::ORDER);
     let front = front_words(z, s);
     store_front(&front, work);
     true

@@ -10,74 +10,54 @@ ghost use Rattle.model.specs.System.{Exact};
 ghost use Rattle.model.specs.Worked.{Worked};
 
 // Every desk that events lead to is sound.
-pub fn soundness_stands() -> u8
+pub fn soundness_stands()
     ensures { StaysSound }
-{
-    0
-}
+{}
 
 // The keys go to a window that is there, and so does the pointer while it is held.
-pub fn keys_stand() -> u8
+pub fn keys_stand()
     ensures keys { KeysTo }
     ensures held { HeldBy }
-{
-    0
-}
+{}
 
 // Every window that is there stands in the order once, and no other.
-pub fn order_stands() -> u8
+pub fn order_stands()
     ensures { Ordered }
-{
-    0
-}
+{}
 
 // A picture is changed by its owner only, and only by paint.
-pub fn pictures_stand() -> u8
+pub fn pictures_stand()
     ensures owner { ByOwner }
     ensures paint { ByPaint }
-{
-    0
-}
+{}
 
 // A program is told the same, with any paint of others and any keys typed for others.
-pub fn unseen_stands() -> u8
+pub fn unseen_stands()
     ensures { Unseen }
-{
-    0
-}
+{}
 
 // The same, of any system that tells what the desk tells.
-pub fn unseen_of_stands<S>() -> u8
+pub fn unseen_of_stands<S>()
     ensures { UnseenOf S }
-{
-    0
-}
+{}
 
 // The promise follows from single steps, for a system over any type of states.
-pub fn simulation_stands<S>() -> u8
+pub fn simulation_stands<S>()
     ensures { Simulation S }
-{
-    0
-}
+{}
 
 // The promise, of the system that cuts its damage by any exact cover.
-pub fn covers_stand() -> u8
+pub fn covers_stand()
     ensures { EveryCover }
-{
-    0
-}
+{}
 
 // The cells of the grid of all windows' edges cover the damage of every event exactly, and they are few.
-pub fn grid_stands() -> u8
+pub fn grid_stands()
     ensures exact { Exact grid }
     ensures few { FewBoxes }
-{
-    0
-}
+{}
 
 // Four rows of events worked out by hand come to the screens and words that they should.
-pub fn worked_rows_stand() -> u8
+pub fn worked_rows_stand()
     ensures { Worked }
-{
-    0
-}
+{}

@@ -1,7 +1,8 @@
 -- A box that is copied within its picture, row by row, in either order of the rows.
-use Rattle.std.proofs.Common.{◌≡◌, ℕ, ◌+◌, ◌-◌, ◌<◌, ◌≤◌, false, ◌||◌, eqb, List, get_or, sym, ◌∙◌, arith}
+use Rattle.std.proofs.Common.{◌≡◌, ℕ, ◌+◌, ◌-◌, ◌<◌, ◌≤◌, Bool, true, false, ◌||◌, eqb, leb, List, get_or, sym, ◌∙◌, arith}
 use Rattle.std.proofs.lemmas.Bool.{and_right}
-use Rattle.model.specs.Basics.{in_run}
+use Rattle.std.proofs.lemmas.Bool.Decides.{nat_tests}
+use Rattle.model.specs.Basics.{pick, in_run}
 use Rattle.pixels.specs.declared.Picture.{Picture}
 use Rattle.pixels.specs.declared.Area.{Area}
 use Rattle.pixels.specs.Runs.{Changed}
@@ -12,6 +13,27 @@ use Rattle.pixels.proofs.Rows.{Rows, rows_more, rows_all}
 -- what the dot i, j of the box at a, b is to become
 abbrev pub source : ℕ → ℕ → ℕ → ℕ → ℕ → ℕ → List ℕ → ℕ → ℕ → ℕ
 source at s x y a b old i j = get_or old (place at s (x + (i - a)) (y + (j - b))) 0
+
+-- the row that is copied after k of the h rows: the first first where the box goes up, and else the last first
+abbrev pub next : Bool → ℕ → ℕ → ℕ
+next up h k = pick up k (h - 1 - k)
+
+-- where the k rows begin that are copied
+abbrev pub from_row : Bool → ℕ → ℕ → ℕ → ℕ
+from_row up b h k = pick up b (b + (h - k))
+
+-- the rows that are copied are one more
+pub next-more : (up : Bool) (b h k j : ℕ) → k < h → in_run (from_row up b h (k + 1)) (k + 1) j ≡ (eqb j (b + next up h k) || in_run (from_row up b h k) k j)
+next-more true b h k j l = grind (arith, nat_tests)
+next-more false b h k j l = grind (arith, nat_tests)
+
+-- and the next was not written yet
+pub next-unwritten : (y b h k : ℕ) → k < h → in_run (from_row (leb b y) b h k) k (y + next (leb b y) h k) ≡ false
+next-unwritten y b h k l = grind (arith, nat_tests, pick)
+
+pub next-below : (up : Bool) (h k : ℕ) → k < h → next up h k < h
+next-below true h k l = l
+next-below false h k l = omega arith
 
 -- row t is copied, and the row that it comes from was not written yet
 pub copied_more : (at s high x y a b w lo n lo' n' t : ℕ) (old new new' : List ℕ) → x + w ≤ s → a + w ≤ s → b + t < high →

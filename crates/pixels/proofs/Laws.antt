@@ -1,11 +1,11 @@
 -- What callers conclude: when a box fits, and what became of the pictures that were painted, left alone or moved.
-use Rattle.std.proofs.Common.{◌≡◌, ℕ, ◌+◌, ◌-◌, ◌*◌, ◌<◌, ◌≤◌, true, ◌&&◌, ltb, leb, ◌⊎◌, List, ◌++◌, map, length, get_or, take, drop, sym, ◌∙◌, inl, inr, arith, ext_get_or, rules}
+use Rattle.std.proofs.Common.{◌≡◌, ℕ, ◌+◌, ◌-◌, ◌*◌, ◌<◌, ◌≤◌, true, ◌&&◌, ltb, ◌⊎◌, List, ◌++◌, map, length, get_or, take, drop, sym, ◌∙◌, inl, inr, arith, ext_get_or, rules}
 use mathlib.Core.Path.{fun_ext}
 use Rattle.std.proofs.lemmas.List.{places}
 use Rattle.std.specs.List.{range_with_len}
 use Rattle.std.proofs.lemmas.List.FromFn.{length-map-range_with_len, get_or-map-range_with_len}
 use Rattle.std.proofs.lemmas.Nat.{mul-add-lt}
-use Rattle.std.proofs.lemmas.Bool.{and_parts, and_from, leb-true, le-leb, cases_Bool, cases_lt, ltb-true, lt-ltb, le-ltb, and_left, and_right}
+use Rattle.std.proofs.lemmas.Bool.{and_parts, and_from, le-leb, cases_Bool, cases_lt, ltb-true, lt-ltb, le-ltb, and_left, and_right}
 use Rattle.model.specs.Basics.{pick, in_run}
 use Rattle.pixels.specs.declared.Picture.{Picture}
 use Rattle.pixels.specs.declared.Area.{Area}
@@ -18,13 +18,6 @@ use Rattle.pixels.proofs.Runs.{in_run-yes, in_run-below, in_run-above, in_run-ap
 -- a box of a picture of a slice fits
 pub fits-yes : (p : Picture) (a : Area) (len : ℕ) → p.at + p.wide * p.high ≤ len → a.x + a.wide ≤ p.wide → a.y + a.high ≤ p.high → fits p a len ≡ true
 fits-yes p a len h u v = and_from _ _ (le-leb _ _ h) (and_from _ _ (le-leb _ _ u) (le-leb _ _ v))
-
-pub fits-parts : (p : Picture) (a : Area) (len : ℕ) → fits p a len ≡ true →
-    (p.at + p.wide * p.high ≤ len) × (a.x + a.wide ≤ p.wide) × (a.y + a.high ≤ p.high)
-fits-parts p a len e =
-    let h = and_parts (leb (p.at + p.wide * p.high) len) (leb (a.x + a.wide) p.wide && leb (a.y + a.high) p.high) e in
-    let k = and_parts (leb (a.x + a.wide) p.wide) (leb (a.y + a.high) p.high) h.1 in
-    (leb-true _ _ h.0, leb-true _ _ k.0, leb-true _ _ k.1)
 
 pub run-fits-yes : (lo n len : ℕ) → lo + n ≤ len → run_fits lo n len ≡ true
 run-fits-yes lo n len h = le-leb (lo + n) len h

@@ -62,9 +62,6 @@ row-hit at s x w r i j h k =
       ]
     ]
 
--- a run with one more at its end, and one more before it
+-- a run with one more at its end
 pub run-next : (b r j : ℕ) → in_run b (r + 1) j ≡ (eqb j (b + r) || in_run b r j)
 run-next b r j = grind (arith, nat_tests)
-
-pub run-before : (b r h : ℕ) → 0 < r → r ≤ h → (j : ℕ) → in_run (b + (r - 1)) (h - (r - 1)) j ≡ (eqb j (b + (r - 1)) || in_run (b + r) (h - r) j)
-run-before b r h p q j = grind (arith, nat_tests)

@@ -3,9 +3,9 @@
 #![tactic(auto)]
 
 ghost use Rattle.std.specs.Prelude.{◌≡◌, ◌+◌, ◌-◌, ◌*◌, ◌^◌, ◌<◌, ◌≤◌, true, false, length, slice_index};
-ghost use Rattle.std.specs.Option.{SomeIff};
+ghost use Rattle.std.specs.Option.{SomeIff, IfSome, is_some};
 ghost use Rattle.pixels.specs.Runs.{Changed, run_fits, shift_fits};
-ghost use Rattle.pixels.specs.Pictures.{place, dots_of, lies_in, has_area, fits, copy_fits, out_fits, area_of, target_of, Painted, filled, put_in, copied};
+ghost use Rattle.pixels.specs.Pictures.{place, dots_of, has_area, fits, copy_fits, out_fits, area_of, target_of, Painted, filled, put_in, copied};
 ghost use Rattle.pixels.specs.Colours.{colour_at, colours_in, put_fits};
 
 // A picture: where its first dot lies in the slice, and how many dots it has across and down. Its rows follow one another with no gap.
@@ -57,34 +57,37 @@ impl Area {
 }
 
 impl Picture {
-    // Whether the whole picture lies in a slice of `len` dots.
-    fn lies_in(self, len: usize) -> bool
-        ensures { result ≡ lies_in self len }
+    // Where the picture ends in the slice, or None where that is past every slice.
+    fn end(self) -> Option<usize>
+        ensures { SomeIff result (self.at + self.wide * self.high < 2 ^ 64) (self.at + self.wide * self.high) }
     {
-        let Some(size) = self.wide.checked_mul(self.high) else {
-            return false;
-        };
-        let Some(end) = self.at.checked_add(size) else {
-            return false;
-        };
-        end <= len
+        let size = self.wide.checked_mul(self.high)?;
+        self.at.checked_add(size)
     }
 
     // Whether the area is part of the picture.
     fn has(self, area: Area) -> bool
         ensures { result ≡ has_area self area }
     {
-        area.x <= self.wide
-            && area.wide <= self.wide - area.x
-            && area.y <= self.high
-            && area.high <= self.high - area.y
+        run_fits(area.x, area.wide, self.wide) && run_fits(area.y, area.high, self.high)
     }
 
-    // Whether the area is part of the picture, and the picture lies in a slice of `len` dots.
-    fn fits(self, area: Area, len: usize) -> bool
-        ensures { result ≡ fits self area len }
+    // The area as a part of the picture, where it is one, and the picture lies in a slice of `len` dots.
+    fn part(self, area: Area, len: usize) -> Option<Part>
+        ensures answer { is_some result ≡ fits self area len }
+        ensures picture { IfSome result (λ p. p.picture ≡ self) }
+        ensures area { IfSome result (λ p. p.area ≡ area) }
+        ensures lies { IfSome result (λ p. p.end ≤ len) }
     {
-        self.lies_in(len) && self.has(area)
+        let end = self.end()?;
+        if end > len || !self.has(area) {
+            return None;
+        }
+        Some(Part {
+            picture: self,
+            area,
+            end,
+        })
     }
 
     // Where the dot i, j lies in the slice, or None where that is past every slice.
@@ -95,14 +98,54 @@ impl Picture {
         let row = self.at.checked_add(above)?;
         row.checked_add(i)
     }
+}
 
-    // Where the dot i, j lies in the slice, and that the rest of its row lies in the picture.
-    fn place(self, i: usize, j: usize) -> usize
-        requires { (self.at + self.wide * self.high < 2 ^ 64) × ((i ≤ self.wide) × (j < self.high)) }
-        ensures value { result ≡ place self.at self.wide i j }
-        ensures room { result + (self.wide - i) ≤ self.at + self.wide * self.high }
+// An area that is part of a picture, and where the picture ends in the slice.
+#[derive(Clone, Copy)]
+struct Part {
+    picture: Picture,
+    area: Area,
+    end: usize,
+    ghost columns: { area.x + area.wide ≤ picture.wide },
+    ghost rows: { area.y + area.high ≤ picture.high },
+    ghost ends: { picture.at + picture.wide * picture.high ≡ end },
+}
+
+impl Part {
+    // Where row r of the part begins in the slice.
+    fn row(self, r: usize) -> usize
+        requires { r < self.area.high }
+        ensures value { result ≡ place self.picture.at self.picture.wide self.area.x (self.area.y + r) }
+        ensures room { result + self.area.wide ≤ self.end }
     {
-        self.at + j * self.wide + i
+        self.picture.at + (self.area.y + r) * self.picture.wide + self.area.x
+    }
+
+    // Each row of the part is the colour.
+    fn fill(self, pictures: &mut [u32], colour: u32)
+        requires { self.end ≤ length pictures.old }
+        ensures { Painted self.picture (filled self.area colour) pictures.old pictures.new }
+    {
+        for r in 0..self.area.high {
+            fill_run(pictures, self.row(r), self.area.wide, colour);
+        }
+    }
+
+    // The part `to` becomes what this one was, also where the two overlap.
+    // Its first row goes first where it is not below this one, and else its last: so no row is written before it was read.
+    fn copy(self, to: Part, pictures: &mut [u32])
+        requires lies { self.end ≤ length pictures.old }
+        requires picture { to.picture ≡ self.picture }
+        requires wide { to.area.wide ≡ self.area.wide }
+        requires high { to.area.high ≡ self.area.high }
+        ensures { Painted self.picture (copied self.area to.area.x to.area.y) pictures.old pictures.new }
+    {
+        let high = self.area.high;
+        let up = to.area.y <= self.area.y;
+        for k in 0..high {
+            let r = if up { k } else { high - 1 - k };
+            copy_run(pictures, self.row(r), to.row(r), self.area.wide);
+        }
     }
 }
 
@@ -123,7 +166,8 @@ fn fill_run(dots: &mut [u32], from: usize, count: usize, colour: u32)
 
 // The run of dots is what another run was, also where the two overlap.
 fn copy_run(dots: &mut [u32], from: usize, to: usize, count: usize)
-    requires { (from + count ≤ length dots.old) × (to + count ≤ length dots.old) }
+    requires source { from + count ≤ length dots.old }
+    requires target { to + count ≤ length dots.old }
     ensures { Changed to count (λ k. slice_index dots.old (from + (k - to))) dots.old dots.new }
 {
     dots.copy_within(from..from + count, to);
@@ -142,72 +186,17 @@ pub fn clear(dots: &mut [u32], from: usize, count: usize) -> bool
     true
 }
 
-// Row r of the area is the colour.
-fn fill_row(pictures: &mut [u32], picture: Picture, area: Area, r: usize, colour: u32)
-    requires { (fits picture area (length pictures.old) ≡ true) × (r < area.high) }
-    ensures { Changed (place picture.at picture.wide area.x (area.y + r)) area.wide (λ _. colour) pictures.old pictures.new }
-{
-    let start = picture.place(area.x, area.y + r);
-    fill_run(pictures, start, area.wide, colour);
-}
-
-// Each row of the area is the colour.
-fn fill_rows(pictures: &mut [u32], picture: Picture, area: Area, colour: u32)
-    requires { fits picture area (length pictures.old) ≡ true }
-    ensures { Painted picture (filled area colour) pictures.old pictures.new }
-{
-    for r in 0..area.high {
-        fill_row(pictures, picture, area, r, colour);
-    }
-}
-
 // The area of the picture is the colour.
 pub fn fill(pictures: &mut [u32], picture: Picture, area: Area, colour: u32) -> bool
     ensures answer { result ≡ fits picture area (length pictures.old) }
     ensures done { result ≡ true → Painted picture (filled area colour) pictures.old pictures.new }
     ensures refused { result ≡ false → pictures.new ≡ pictures.old }
 {
-    if !picture.fits(area, pictures.len()) {
+    let Some(part) = picture.part(area, pictures.len()) else {
         return false;
-    }
-    fill_rows(pictures, picture, area, colour);
+    };
+    part.fill(pictures, colour);
     true
-}
-
-// Row r of the area is copied to row r of the box of its size at a, b.
-fn copy_row(pictures: &mut [u32], picture: Picture, area: Area, a: usize, b: usize, r: usize)
-    requires source { fits picture area (length pictures.old) ≡ true }
-    requires target { (a + area.wide ≤ picture.wide) × (b + area.high ≤ picture.high) }
-    requires row { r < area.high }
-    ensures { Changed (place picture.at picture.wide a (b + r)) area.wide (λ k. slice_index pictures.old (place picture.at picture.wide area.x (area.y + r) + (k - place picture.at picture.wide a (b + r)))) pictures.old pictures.new }
-{
-    let from = picture.place(area.x, area.y + r);
-    let to = picture.place(a, b + r);
-    copy_run(pictures, from, to, area.wide);
-}
-
-// The area is copied to a, b, its first row first: right where that is not below the area, since no row is then written before it was read.
-fn copy_up(pictures: &mut [u32], picture: Picture, area: Area, a: usize, b: usize)
-    requires source { fits picture area (length pictures.old) ≡ true }
-    requires target { (a + area.wide ≤ picture.wide) × (b + area.high ≤ picture.high) }
-    requires order { b ≤ area.y }
-    ensures { Painted picture (copied area a b) pictures.old pictures.new }
-{
-    for r in 0..area.high {
-        copy_row(pictures, picture, area, a, b, r);
-    }
-}
-
-// The same, its last row first: right where a, b is not above the area.
-fn copy_down(pictures: &mut [u32], picture: Picture, area: Area, a: usize, b: usize)
-    requires source { fits picture area (length pictures.old) ≡ true }
-    requires target { (a + area.wide ≤ picture.wide) × (b + area.high ≤ picture.high) }
-    requires order { area.y ≤ b }
-    ensures { Painted picture (copied area a b) pictures.old pictures.new }
-{
-    for r in (0..area.high).rev() {
-        copy_row(pictures, picture, area, a, b, r);
-    }
 }
 
 // The box of the area's size at a, b becomes what the area was, also where the two overlap.
@@ -216,14 +205,13 @@ pub fn copy(pictures: &mut [u32], picture: Picture, area: Area, a: usize, b: usi
     ensures done { result ≡ true → Painted picture (copied area a b) pictures.old pictures.new }
     ensures refused { result ≡ false → pictures.new ≡ pictures.old }
 {
-    if !picture.fits(area, pictures.len()) || !picture.has(area.moved_to(a, b)) {
+    let Some(from) = picture.part(area, pictures.len()) else {
         return false;
-    }
-    if b <= area.y {
-        copy_up(pictures, picture, area, a, b);
-    } else {
-        copy_down(pictures, picture, area, a, b);
-    }
+    };
+    let Some(to) = picture.part(area.moved_to(a, b), pictures.len()) else {
+        return false;
+    };
+    from.copy(to, pictures);
     true
 }
 
@@ -240,13 +228,6 @@ pub fn shift(dots: &mut [u32], from: usize, to: usize, count: usize) -> bool
     true
 }
 
-// The element at a place, or 0 past the end.
-fn read(dots: &[u32], k: usize) -> u32
-    ensures { result ≡ slice_index dots.now k }
-{
-    if k < dots.len() { dots[k] } else { 0 }
-}
-
 // The dot i, j of a picture; outside of it, and where the slice has no such dot, 0.
 pub fn dot(pictures: &[u32], picture: Picture, i: usize, j: usize) -> u32
     ensures { result ≡ dots_of pictures.now picture.at picture.wide picture.high i j }
@@ -257,7 +238,7 @@ pub fn dot(pictures: &[u32], picture: Picture, i: usize, j: usize) -> u32
     let Some(k) = picture.find(i, j) else {
         return 0;
     };
-    read(pictures, k)
+    pictures.get(k).copied().unwrap_or(0)
 }
 
 // The colour in four bytes, the low one first.
@@ -265,13 +246,10 @@ fn colour_at(call: &[u8], k: usize) -> u32
     requires { k + 4 ≤ length call.now }
     ensures { result ≡ colour_at call.now k }
 {
-    call[k] as u32
-        + 256 * call[k + 1] as u32
-        + 65536 * call[k + 2] as u32
-        + 16777216 * call[k + 3] as u32
+    u32::from_le_bytes([call[k], call[k + 1], call[k + 2], call[k + 3]])
 }
 
-// The row is the colours of the call from byte `from` on.
+// The row is the colours of the call from byte `from` on: written by index, since a proof knows no elements after `iter_mut`.
 fn read_colours(row: &mut [u32], call: &[u8], from: usize)
     requires { from + 4 * length row.old ≤ length call.now }
     ensures { row.new ≡ colours_in call.now from (length row.old) }
@@ -283,7 +261,8 @@ fn read_colours(row: &mut [u32], call: &[u8], from: usize)
 
 // The run of dots is the colours of the call from byte `from` on.
 fn put_run(dots: &mut [u32], to: usize, count: usize, call: &[u8], from: usize)
-    requires { (to + count ≤ length dots.old) × (from + 4 * count ≤ length call.now) }
+    requires room { to + count ≤ length dots.old }
+    requires colours { from + 4 * count ≤ length call.now }
     ensures { Changed to count (λ k. slice_index (colours_in call.now from count) (k - to)) dots.old dots.new }
 {
     read_colours(&mut dots[to..to + count], call, from);
@@ -296,51 +275,29 @@ fn has_colours(from: usize, count: usize, len: usize) -> bool
     from <= len && count <= (len - from) / 4
 }
 
-// Whether the span is part of a picture in a slice of `len` dots, and a call of `bytes` bytes has a colour for each of its dots.
-fn put_fits(picture: Picture, span: Span, len: usize, from: usize, bytes: usize) -> bool
-    ensures { result ≡ put_fits picture span len from bytes }
-{
-    picture.fits(span.area(), len) && has_colours(from, span.wide, bytes)
-}
-
-// The dots of the span are the colours of the call from byte `from` on, where all that fits.
-fn put_span(pictures: &mut [u32], picture: Picture, span: Span, call: &[u8], from: usize)
-    requires { put_fits picture span (length pictures.old) from (length call.now) ≡ true }
-    ensures { Painted picture (put_in span.x span.y (colours_in call.now from span.wide)) pictures.old pictures.new }
-{
-    let start = picture.place(span.x, span.y);
-    put_run(pictures, start, span.wide, call, from);
-}
-
 // The dots of the span are the colours of the call from byte `from` on, four bytes each.
 pub fn put(pictures: &mut [u32], picture: Picture, span: Span, call: &[u8], from: usize) -> bool
     ensures answer { result ≡ put_fits picture span (length pictures.old) from (length call.now) }
     ensures done { result ≡ true → Painted picture (put_in span.x span.y (colours_in call.now from span.wide)) pictures.old pictures.new }
     ensures refused { result ≡ false → pictures.new ≡ pictures.old }
 {
-    if !put_fits(picture, span, pictures.len(), from, call.len()) {
+    let Some(part) = picture.part(span.area(), pictures.len()) else {
+        return false;
+    };
+    if !has_colours(from, span.wide, call.len()) {
         return false;
     }
-    put_span(pictures, picture, span, call, from);
+    put_run(pictures, part.row(0), span.wide, call, from);
     true
 }
 
 // A run of one slice becomes what a run of the other is.
 fn copy_across(dots: &[u32], from: usize, out: &mut [u32], to: usize, count: usize)
-    requires { (from + count ≤ length dots.now) × (to + count ≤ length out.old) }
+    requires source { from + count ≤ length dots.now }
+    requires target { to + count ≤ length out.old }
     ensures { Changed to count (λ k. slice_index dots.now (from + (k - to))) out.old out.new }
 {
     out[to..to + count].copy_from_slice(&dots[from..from + count]);
-}
-
-// The dots of the span are written into another slice, from `to` on, where they fit.
-fn copy_span(pictures: &[u32], picture: Picture, span: Span, out: &mut [u32], to: usize)
-    requires source { fits picture (area_of span) (length pictures.now) ≡ true }
-    requires room { to + span.wide ≤ length out.old }
-    ensures { Changed to span.wide (λ k. dots_of pictures.now picture.at picture.wide picture.high (span.x + (k - to)) span.y) out.old out.new }
-{
-    let start = picture.place(span.x, span.y);
-    copy_across(pictures, start, out, to, span.wide);
 }
 
 // The dots of the span are written into another slice, from `to` on.
@@ -349,10 +306,13 @@ pub fn copy_out(pictures: &[u32], picture: Picture, span: Span, out: &mut [u32],
     ensures done { result ≡ true → Changed to span.wide (λ k. dots_of pictures.now picture.at picture.wide picture.high (span.x + (k - to)) span.y) out.old out.new }
     ensures refused { result ≡ false → out.new ≡ out.old }
 {
-    if !picture.fits(span.area(), pictures.len()) || !run_fits(to, span.wide, out.len()) {
+    let Some(part) = picture.part(span.area(), pictures.len()) else {
+        return false;
+    };
+    if !run_fits(to, span.wide, out.len()) {
         return false;
     }
-    copy_span(pictures, picture, span, out, to);
+    copy_across(pictures, part.row(0), out, to, span.wide);
     true
 }
 

@@ -3,14 +3,14 @@ use Rattle.std.proofs.Common.{◌≡◌, ℕ, suc, ◌+◌, ◌-◌, ◌<◌, �
 use Rattle.std.proofs.lemmas.Bool.{eq-eqb, ne_eqb, cases_lt, cases_eq, lt-ltb, le-ltb, le-leb}
 use Rattle.std.proofs.lemmas.List.{append-nil, take_at, drop_at, take-take, take-append-le, length-append, length-take-le}
 use Rattle.std.proofs.lemmas.Slice.{between_is}
-use Rattle.region.proofs.Walks.{length-stretched}
+use Rattle.std.proofs.lemmas.List.{length-map}
 use Rattle.geometry.specs.declared.Rect.{Rect}
 use Rattle.region.specs.declared.Op.{Op}
 use Rattle.region.specs.Edges.{inside, Between, Row}
 use Rattle.region.specs.Boxes.{edges, Rows, across, none, act}
 use Rattle.region.specs.Bands.{same_edges, Change, row_at, last_row, Bands, Region, has}
 use Rattle.region.specs.Flat.{covers, boxes, flat, Canonical}
-use Rattle.region.specs.Reader.{Rest, Slab, stretched, Combined}
+use Rattle.region.specs.Reader.{Rest, Slab, stretched, stretched_one, Combined}
 use Rattle.region.proofs.Pairs.{across-inside, odd-edges}
 use Rattle.region.proofs.Banding.{at-past, at_before, lower-bands, wider-bands, unique-region, same_true, same_false}
 use Rattle.region.proofs.Flattening.{edges-boxes, boxes-edges, bands-spread, flat-covers, flat-push}
@@ -305,7 +305,7 @@ module _ (f : Bool → Bool → Bool) (a b out ys post : List Rect) (p q y m n p
       is = z ∙ (ap (stretched to) old ∙ stretched-boxes s.t y to s.row)
 
       size : length zs ≡ length (boxes s.t y s.row)
-      size = ap length z ∙ (length-stretched to (take (n - m) (drop m wrote)) ∙ ap length old)
+      size = ap length z ∙ (length-map (take (n - m) (drop m wrote)) (stretched_one to) ∙ ap length old)
 
       whole : take n (take m wrote ++ (zs ++ post₂)) ≡ take m out ++ boxes s.t to s.row
       whole =

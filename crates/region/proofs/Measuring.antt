@@ -1,10 +1,9 @@
 -- How many dots a region has: the dots of its boxes, since no two of them share one.
-use Rattle.std.proofs.Common.{◌≡◌, ℕ, zero, suc, ◌+◌, ◌-◌, ◌*◌, ◌<◌, ◌≤◌, min, Bool, true, false, cond, ◌&&◌, ◌||◌, ltb, leb, List, [], ◌∷◌, ◌++◌, length, get_or, drop, sym, refl, ap, ◌∙◌, subst, ap₂, mul_comm, add-mul, arith}
+use Rattle.std.proofs.Common.{◌≡◌, ℕ, zero, suc, ◌+◌, ◌-◌, ◌*◌, ◌<◌, ◌≤◌, min, Bool, true, false, cond, ◌&&◌, ◌||◌, ltb, leb, List, [], ◌∷◌, ◌++◌, sym, refl, ap, ◌∙◌, subst, ap₂, mul_comm, add-mul, arith}
 use Rattle.std.proofs.lemmas.Bool.{true≢false}
 use Rattle.std.proofs.lemmas.Bool.Decides.{nat_tests}
-use Rattle.std.proofs.lemmas.List.{drop_more, drop_all}
 use Rattle.geometry.specs.declared.Rect.{Rect}
-use Rattle.geometry.specs.Boxes.{in_rect, blank}
+use Rattle.geometry.specs.Boxes.{in_rect}
 use Rattle.region.specs.Edges.{Between, Row}
 use Rattle.region.specs.Bands.{Change, Bands, last_row}
 use Rattle.region.specs.Flat.{covers, boxes, flat, Canonical}
@@ -134,30 +133,3 @@ dots-less f wide high = total-less _ wide high (λ j. let e = total-less (λ i. 
 
 pub area-less : (rs : List Rect) → Canonical rs → area rs ≤ 16777216
 area-less rs k = let e : area rs ≤ 4096 * 4096 = subst (λ (z : ℕ). z ≤ 4096 * 4096) (sym (measured rs k)) (dots-less (covers rs) 4096 4096) in e
-
--- the walks over the boxes
-pub covers_more : (rs : List Rect) (k i j : ℕ) → k < length rs → covers (drop k rs) i j ≡ (in_rect (get_or rs k blank) i j || covers (drop (k + 1) rs) i j)
-covers_more rs k i j h = ap (λ (z : List Rect). covers z i j) (drop_more rs k blank h)
-
-pub covers-none : (rs : List Rect) (k i j : ℕ) → length rs ≤ k → covers (drop k rs) i j ≡ false
-covers-none rs k i j h = ap (λ (z : List Rect). covers z i j) (drop_all k rs h)
-
-pub area-more : (rs : List Rect) (k : ℕ) → k < length rs → area (drop k rs) ≡ ((get_or rs k blank).right - (get_or rs k blank).left) * ((get_or rs k blank).below - (get_or rs k blank).top) + area (drop (k + 1) rs)
-area-more rs k h = ap area (drop_more rs k blank h)
-
-pub area-none : (rs : List Rect) (k : ℕ) → length rs ≤ k → area (drop k rs) ≡ 0
-area-none rs k h = ap area (drop_all k rs h)
-
-module _ (rs : List Rect) (k : ℕ) (r : Rect) (h : k < length rs) (is : r ≡ get_or rs k blank) where
-  pub covers-hit : (i j : ℕ) → covers rs i j ≡ covers (drop k rs) i j → in_rect r i j ≡ true → covers rs i j ≡ true
-  covers-hit i j e q =
-      e ∙ (covers_more rs k i j h ∙ ap (λ b. b || covers (drop (k + 1) rs) i j) (ap (λ (z : Rect). in_rect z i j) (sym is) ∙ q))
-
-  pub covers-miss : (i j : ℕ) → covers rs i j ≡ covers (drop k rs) i j → in_rect r i j ≡ false → covers rs i j ≡ covers (drop (k + 1) rs) i j
-  covers-miss i j e q =
-      e ∙ (covers_more rs k i j h ∙ ap (λ b. b || covers (drop (k + 1) rs) i j) (ap (λ (z : Rect). in_rect z i j) (sym is) ∙ q))
-
-  pub area-step : (w v : ℕ) → w ≡ r.right - r.left → v ≡ r.below - r.top → area (drop k rs) ≡ w * v + area (drop (k + 1) rs)
-  area-step w v p q =
-      area-more rs k h
-      ∙ ap (λ z. z + area (drop (k + 1) rs)) (ap (λ (z : Rect). (z.right - z.left) * (z.below - z.top)) (sym is) ∙ ap₂ (λ (x y : ℕ). x * y) (sym p) (sym q))

@@ -194,28 +194,20 @@ moved_made dx dy across down A out after n k m h e =
     shown i j p q low =
         ap₂ (λ x y. x && y) (coming-side r l (min across 4096) i (one_way dx) (omega arith) (le_of r (i + l) p) low.0) (coming-side d u (min down 4096) j (one_way dy) (omega arith) (le_of d (j + u) q) low.1)
 
--- the same, with the four numbers and the box that the code has found
-module _ (dx dy : ℤ) (across down : ℕ) (A : List Rect) (out : List ℕ) (n r l d u : ℕ) (P : Rect) (er : r ≡ steps_forth dx) (el : l ≡ steps_back dx) (ed : d ≡ steps_forth dy) (eu : u ≡ steps_back dy) (is : P ≡ coming r l d u across down)
+-- the same, with the box that the code has found
+module _ (dx dy : ℤ) (across down : ℕ) (A : List Rect) (out : List ℕ) (n : ℕ) (P : Rect) (is : P ≡ coming (steps_forth dx) (steps_back dx) (steps_forth dy) (steps_back dy) across down)
     (k : Canonical A) (m : Makes Meet A (one P) out n) where
-  none : 2 * n - 0 ≡ 2 * n
-  none = omega arith
+  made : Makes Meet A (one (coming (steps_forth dx) (steps_back dx) (steps_forth dy) (steps_back dy) across down)) out n
+  made = subst (λ (z : Rect). Makes Meet A (one z) out n) is m
 
-  pub shift-stays : Stays r l d u (rects (take (2 * n - 0) out))
-  shift-stays = subst (λ (z : ℕ). Stays r l d u (rects (take z out))) (sym none) (stays-made r l d u across down A out n (subst (λ (z : Rect). Makes Meet A (one z) out n) is m))
+  pub shift-stays : Stays (steps_forth dx) (steps_back dx) (steps_forth dy) (steps_back dy) (rects (take (2 * n) out))
+  shift-stays = stays-made _ _ _ _ across down A out n made
 
-  pub shift_made : (ys post : List ℕ) → length ys ≡ length (take (2 * n - 0) out) → rects ys ≡ shifted r l d u (rects (take (2 * n - 0) out)) → Moved A dx dy across down (ys ++ post) n
-  shift_made ys post e q = moved_made dx dy across down A out (ys ++ post) n k made (omega (arith, size, length-append ys post)) all
+  pub shift_made : (ys post : List ℕ) → length ys ≡ length (take (2 * n) out) → rects ys ≡ shifted (steps_forth dx) (steps_back dx) (steps_forth dy) (steps_back dy) (rects (take (2 * n) out)) → Moved A dx dy across down (ys ++ post) n
+  shift_made ys post e q = moved_made dx dy across down A out (ys ++ post) n k made (omega (arith, size, length-append ys post)) (ap rects (take_at ys post (2 * n) size) ∙ q)
     where
       size : length ys ≡ 2 * n
-      size = e ∙ (ap (λ (z : ℕ). length (take z out)) none ∙ length-take-le (2 * n) out m.within)
-
-      made : Makes Meet A (one (coming (steps_forth dx) (steps_back dx) (steps_forth dy) (steps_back dy) across down)) out n
-      made = subst (λ (z : Rect). Makes Meet A (one z) out n) (is ∙ (λ i. coming (er i) (el i) (ed i) (eu i) across down)) m
-
-      all : rects (take (2 * n) (ys ++ post)) ≡ shifted (steps_forth dx) (steps_back dx) (steps_forth dy) (steps_back dy) (rects (take (2 * n) out))
-      all =
-          ap rects (take_at ys post (2 * n) size)
-          ∙ (q ∙ (ap (λ (z : ℕ). shifted r l d u (rects (take z out))) none ∙ (λ i. shifted (er i) (el i) (ed i) (eu i) (rects (take (2 * n) out)))))
+      size = e ∙ length-take-le (2 * n) out m.within
 
 -- the room that it wants
 pub coming-region : (r l d u across down : ℕ) (P : Rect) → P ≡ coming r l d u across down → Canonical (one P)

@@ -173,9 +173,6 @@ module _ (a : List Rect) (p y t : ℕ) (began : t ≤ y) (within : p ≤ length 
       across-row : (i : ℕ) → across B i ≡ inside row i
       across-row i = let e = edges-boxes t c.at row good.1 in across-inside 0 B 4097 i (rw e good.0) ∙ ap (λ z. inside z i) e
 
-  private-first : (p < length a) → drop p a ≡ get_or a p blank ∷ drop (p + 1) a
-  private-first h = drop_more a p blank h
-
   by-case : (row : List ℕ) (bands : List Change) → drop p a ≡ flat t row bands 4096 → Row 4096 row → Bands (suc y) row bands 4097 → last_row row bands ≡ [] →
       ((i j : ℕ) → y ≤ j → covers a i j ≡ inside (row_at row bands j) i) → p < length a →
       (y < (get_or a p blank).top → Slab a p y p (get_or a p blank).top) × ((get_or a p blank).top ≤ y → Slab a p y (p + leading (get_or a p blank).top (drop p a)) (get_or a p blank).below)

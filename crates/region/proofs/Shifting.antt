@@ -1,13 +1,13 @@
 -- A region that is moved is a region.
-use Rattle.std.proofs.Common.{◌≡◌, ℕ, zero, suc, ◌+◌, ◌-◌, ◌<◌, ◌≤◌, Bool, true, false, not, ◌&&◌, ◌||◌, ltb, leb, ◌≢◌, List, [], ◌∷◌, ◌++◌, length, get_or, take, drop, set, sym, refl, ap, ◌∙◌, subst, ap₂, arith}
+use Rattle.std.proofs.Common.{◌≡◌, ℕ, suc, ◌+◌, ◌-◌, ◌≤◌, Bool, true, false, not, ◌&&◌, ◌||◌, ltb, leb, ◌≢◌, List, [], ◌∷◌, ◌++◌, sym, refl, ap, ◌∙◌, subst, ap₂, arith}
 use Rattle.std.proofs.lemmas.Bool.{true≢false}
 use Rattle.std.proofs.lemmas.Bool.Decides.{nat_tests}
 use Rattle.geometry.specs.declared.Rect.{Rect}
 use Rattle.region.specs.Edges.{odd, Between, Row}
 use Rattle.region.specs.Bands.{Change, last_row, Bands, Region}
 use Rattle.region.specs.Flat.{covers, boxes, flat, Canonical}
-use Rattle.geometry.specs.Boxes.{blank}
-use Rattle.std.proofs.lemmas.List.{drop_more, take_more, get_or_at, set_at, append_assoc, append-nil, length-take-le, take_all, drop_all}
+use Rattle.std.proofs.lemmas.List.{map-append}
+use Rattle.std.specs.List.{AllZip}
 use Rattle.region.specs.Shift.{shifted, shifted_one, Stays, Shifts}
 
 -- one box, along one side: what lies in it
@@ -68,14 +68,10 @@ module _ (r l d u : ℕ) where
   boxes-of t b (e ∷ []) = refl
   boxes-of t b (e ∷ f ∷ es) = ap (λ z. record { left = e + r - l; top = t + d - u; right = f + r - l; below = b + d - u } ∷ z) (boxes-of t b es)
 
-  shifted-append : (xs ys : List Rect) → shifted r l d u (xs ++ ys) ≡ shifted r l d u xs ++ shifted r l d u ys
-  shifted-append [] ys = refl
-  shifted-append (x ∷ xs) ys = ap (λ z. record { left = x.left + r - l; top = x.top + d - u; right = x.right + r - l; below = x.below + d - u } ∷ z) (shifted-append xs ys)
-
   flat-of : (t : ℕ) (row : List ℕ) (cs : List Change) (e : ℕ) → flat (t + d - u) (across-of row) (changes-of cs) (e + d - u) ≡ shifted r l d u (flat t row cs e)
   flat-of t row [] e = boxes-of t e row
   flat-of t row (c ∷ cs) e =
-      ap₂ (λ y z. y ++ z) (boxes-of t c.at row) (flat-of c.at c.row cs e) ∙ sym (shifted-append (boxes t c.at row) (flat c.at c.row cs e))
+      ap₂ (λ y z. y ++ z) (boxes-of t c.at row) (flat-of c.at c.row cs e) ∙ sym (map-append (shifted_one r l d u) (boxes t c.at row) (flat c.at c.row cs e))
 
   stays-left : (xs ys : List Rect) → Stays r l d u (xs ++ ys) → Stays r l d u xs
   stays-left [] ys h = tt
@@ -167,27 +163,9 @@ module _ (r l d u : ℕ) where
       both true false false y z = refl
       both false q x y z = refl
 
-  -- the loop
-  length-shifted : (rs : List Rect) → length (shifted r l d u rs) ≡ length rs
-  length-shifted [] = refl
-  length-shifted (s ∷ rs) = ap suc (length-shifted rs)
-
-  pub shifted-here : (s s₀ : List Rect) (i : ℕ) → s ≡ shifted r l d u (take i s₀) ++ drop i s₀ → i < length s₀ → get_or s i blank ≡ get_or s₀ i blank
-  shifted-here s s₀ i e h =
-      ap (λ y. get_or y i blank) (e ∙ ap (λ z. shifted r l d u (take i s₀) ++ z) (drop_more s₀ i blank h))
-      ∙ get_or_at (shifted r l d u (take i s₀)) (get_or s₀ i blank) (drop (i + 1) s₀) blank i (length-shifted (take i s₀) ∙ length-take-le i s₀ (omega arith))
-
-  pub shifted_step : (s s₀ : List Rect) (i : ℕ) (m : Rect) → s ≡ shifted r l d u (take i s₀) ++ drop i s₀ → i < length s₀ → m ≡ shifted_one r l d u (get_or s i blank) → set s i m ≡ shifted r l d u (take (i + 1) s₀) ++ drop (i + 1) s₀
-  shifted_step s s₀ i m e h q =
-      ap₂ (λ y z. set y i z) (e ∙ ap (λ z. shifted r l d u (take i s₀) ++ z) (drop_more s₀ i blank h)) (q ∙ ap (shifted_one r l d u) (shifted-here s s₀ i e h))
-      ∙ (set_at (shifted r l d u (take i s₀)) (get_or s₀ i blank) (drop (i + 1) s₀) (shifted_one r l d u (get_or s₀ i blank)) i (length-shifted (take i s₀) ∙ length-take-le i s₀ (omega arith))
-      ∙ (sym (append_assoc (shifted r l d u (take i s₀)) (shifted_one r l d u (get_or s₀ i blank) ∷ []) (drop (i + 1) s₀))
-      ∙ ap (λ z. z ++ drop (i + 1) s₀) (sym (ap (shifted r l d u) (take_more s₀ i blank h) ∙ shifted-append r l d u (take i s₀) (get_or s₀ i blank ∷ [])))))
-
-  pub shifted-all : (s : List Rect) (i : ℕ) → length s ≤ i → shifted r l d u (take i s) ++ drop i s ≡ shifted r l d u s
-  shifted-all s i h = ap₂ (λ y z. shifted r l d u y ++ z) (take_all i s h) (drop_all i s h) ∙ append-nil (shifted r l d u s)
-
-  pub stays_at : (rs : List Rect) (i : ℕ) → i < length rs → Stays r l d u rs → Stays r l d u (get_or rs i blank ∷ [])
-  stays_at [] i m h = absurd (omega arith)
-  stays_at (x ∷ rs) zero m h = (h.0, tt)
-  stays_at (x ∷ rs) (suc i) m h = stays_at rs i (omega arith) h.1
+  -- what moves each box that stays moves them all
+  pub each-moved : (R : Rect → Rect → Type 0) → ((x y : Rect) → R x y → Stays r l d u (x ∷ []) → y ≡ shifted_one r l d u x) → (xs ys : List Rect) → Stays r l d u xs → AllZip R xs ys → ys ≡ shifted r l d u xs
+  each-moved R e [] [] s h = refl
+  each-moved R e [] (y ∷ ys) s h = absurd h
+  each-moved R e (x ∷ xs) [] s h = absurd h
+  each-moved R e (x ∷ xs) (y ∷ ys) s h = ap₂ (λ b bs. b ∷ bs) (e x y h.0 (s.0, tt)) (each-moved R e xs ys s.1 h.1)

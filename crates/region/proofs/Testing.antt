@@ -14,8 +14,8 @@ use Rattle.region.specs.Checks.{fits_band, in_band, follows_on}
 use Rattle.region.proofs.Pairs.{odd-edges}
 use Rattle.region.proofs.Banding.{same_true, same_false, lower-bands}
 use Rattle.region.proofs.Flattening.{edges-boxes, rows-boxes, boxes-edges, bands-spread}
+use Rattle.region.proofs.Walks.{leading-short}
 use Rattle.region.proofs.Reading.{nil≢cons, head-top, head-below, leading-rows, leading-flat}
-use Rattle.region.proofs.Walks.{leading-here}
 
 -- the boxes rs go on from the row y, where a band with the edges `above` ends
 pub record Tail (above : List ℕ) (y : ℕ) (rs : List Rect) : Type 0 where
@@ -184,18 +184,6 @@ is-in_band t b low (r ∷ rs) h k =
     is-fit : (u v l r : ℕ) → u ≡ t → v ≡ b → low ≤ l → l < r → suc r ≤ 4097 → ((eqb u t && eqb v b) && (leb low l && (ltb l r && leb r 4096))) ≡ true
     is-fit u v l r p q a b c = grind (arith, nat_tests)
 
--- the walk over one band
-pub in_band-step : (t b low : ℕ) (rs : List Rect) (i : ℕ) → i < length rs → fits_band t b low (get_or rs i blank) ≡ true → in_band t b low (drop i rs) ≡ in_band t b ((get_or rs i blank).right + 1) (drop (i + 1) rs)
-in_band-step t b low rs i l h =
-    let e : suc (get_or rs i blank).right ≡ (get_or rs i blank).right + 1 = omega arith in
-    ap (in_band t b low) (drop_more rs i blank l) ∙ (ap (λ z. z && in_band t b (suc (get_or rs i blank).right) (drop (i + 1) rs)) h ∙ ap (λ (z : ℕ). in_band t b z (drop (i + 1) rs)) e)
-
-pub in_band-stop : (t b low : ℕ) (rs : List Rect) (i : ℕ) → i < length rs → fits_band t b low (get_or rs i blank) ≡ false → in_band t b low (drop i rs) ≡ false
-in_band-stop t b low rs i l h = ap (in_band t b low) (drop_more rs i blank l) ∙ ap (λ z. z && in_band t b (suc (get_or rs i blank).right) (drop (i + 1) rs)) h
-
-pub in_band-all : (t b low : ℕ) (rs : List Rect) (i : ℕ) → length rs ≤ i → in_band t b low (drop i rs) ≡ true
-in_band-all t b low rs i h = ap (in_band t b low) (drop_all i rs h)
-
 -- what the test of one band says
 follows-parts : (p q r s : Bool) → ((p && (q && r)) && s) ≡ true → (p ≡ true) × (q ≡ true) × (r ≡ true) × (s ≡ true)
 follows-parts true true true true h = (refl, refl, refl, refl)
@@ -250,13 +238,8 @@ is-follows A y B f k =
     by true e n = absurd (n (sym (same_true (edges A) (edges B) e)))
     by false e n = e
 
-pub leading-short : (t : ℕ) (xs : List Rect) → leading t xs ≤ length xs
-leading-short t [] = omega arith
-leading-short t (x ∷ xs) = by (eqb x.top t) (leading-short t xs)
-  where
-    by : (b : Bool) → leading t xs ≤ length xs → cond b (suc (leading t xs)) 0 ≤ suc (length xs)
-    by true k = omega arith
-    by false k = omega arith
+leading-some : (t : ℕ) (f : Rect) (fs : List Rect) → f.top ≡ t → 0 < leading t (f ∷ fs)
+leading-some t f fs e = let k : leading t (f ∷ fs) ≡ suc (leading t fs) = ap (λ b. cond b (suc (leading t fs)) 0) (eq-eqb f.top t e) in omega arith
 
 -- the walk over the bands: the boxes are a region just where what is left goes on
 pub record Tested (A : List Rect) (m p y : ℕ) : Type 0 where
@@ -277,7 +260,7 @@ module _ (A : List Rect) (m p y e : ℕ) (f : Rect) (s : Tested A m p y) (h : p 
   first-is = drop_more A p blank h ∙ ap (λ (z : Rect). z ∷ drop (p + 1) A) (sym is)
 
   pub band-on : p < e
-  band-on = omega (arith, end, leading-here f.top A p h (ap (λ (z : Rect). z.top) (sym is)))
+  band-on = omega (arith, end, leading-some f.top f (drop (p + 1) A) refl, ap (leading f.top) first-is)
 
   size : e - p ≡ leading f.top (drop p A)
   size = omega (arith, end)

@@ -1,76 +1,116 @@
--- Steps of the loops over one region.
-use Rattle.std.proofs.Common.{◌≡◌, ℕ, suc, ◌+◌, ◌<◌, ◌≤◌, true, false, cond, ◌&&◌, eqb, ◌⊎◌, List, [], ◌∷◌, ◌++◌, length, get_or, take, drop, set, sym, refl, ap, ◌∙◌, ap₂, inl, inr, arith}
-use Rattle.std.proofs.lemmas.Bool.{eq-eqb, ne_eqb, cases_Bool, and_right}
-use Rattle.std.proofs.lemmas.List.{at_drop_more, at_drop_all, drop_more, take_more, append_assoc, set_at, length-take-le, drop_all, take_all, append-nil, get_or_at}
+-- Walks over the boxes of some words.
+use Rattle.std.proofs.Common.{◌≡◌, ℕ, zero, suc, ◌+◌, ◌-◌, ◌*◌, ◌<◌, ◌≤◌, Bool, true, false, cond, ◌&&◌, ◌||◌, ◌==◌, List, [], ◌∷◌, length, get_or, map, set, sym, refl, ap, ◌∙◌, subst, add-one, arith}
+use Rattle.std.specs.List.{AllZip, AllWithin, list_any, list_all, prefix_len, sum_by, zip}
+use Rattle.std.specs.Iterator.{YieldsFirst}
+use Rattle.std.specs.Iterator.Runs.{YieldsInOrder}
+use Rattle.std.proofs.iter.runs.Sources.{from_front, as_is}
+use Rattle.std.proofs.lemmas.Iterator.{YieldsList}
+use Rattle.std.proofs.lemmas.Iterator.Consumers.{YieldsList-from_first}
+use Rattle.std.proofs.lemmas.Bool.{or_right}
+use Rattle.std.proofs.lemmas.List.Recursion.{is_sum_by}
 use Rattle.geometry.specs.declared.Rect.{Rect}
-use Rattle.geometry.specs.Boxes.{blank}
+use Rattle.geometry.specs.Boxes.{in_rect, blank, Empty}
+use Rattle.region.specs.declared.Boxes.{Boxes}
 use Rattle.region.specs.Boxes.{edges}
 use Rattle.region.specs.Bands.{same_edges}
-use Rattle.region.specs.Reader.{leading, stretched}
-use Rattle.region.proofs.Banding.{same_true}
-use Rattle.region.proofs.Pairs.{length-edges}
+use Rattle.region.specs.Flat.{covers}
+use Rattle.region.specs.Reader.{leading}
+use Rattle.region.specs.Dots.{area, NoDots}
+use Rattle.region.specs.Words.{boxes_left}
 
-pub leading-here : (t : ℕ) (a : List Rect) (e : ℕ) → e < length a → (get_or a e blank).top ≡ t → leading t (drop e a) ≡ suc (leading t (drop (e + 1) a))
-leading-here t a e h q = at_drop_more (leading t) a e blank h ∙ ap (λ b. cond b (suc (leading t (drop (e + 1) a))) 0) (eq-eqb _ _ q)
+-- a walk over some words gives their boxes
+pub boxes-runs : YieldsInOrder (YieldsFirst boxes_left) boxes_left
+boxes-runs p s = as_is p (boxes_left p.from) (from_front (YieldsFirst boxes_left) (λ x. x) boxes_left (λ s t h. ap length h.0) (λ s x t h. h) p s)
 
-pub leading-stop : (t : ℕ) (a : List Rect) (e : ℕ) → e < length a → ((get_or a e blank).top ≡ t → ⊥) → leading t (drop e a) ≡ 0
-leading-stop t a e h q = at_drop_more (leading t) a e blank h ∙ ap (λ b. cond b (suc (leading t (drop (e + 1) a))) 0) (ne_eqb _ _ q)
+pub boxes-yield : (b : Boxes) (rs : List Rect) → boxes_left b ≡ rs → YieldsList (YieldsFirst boxes_left) (λ x. x) b rs
+boxes-yield b rs e = YieldsList-from_first (λ x. x) boxes_left rs e
 
-pub leading_end : (t : ℕ) (a : List Rect) (e : ℕ) → length a ≤ e → leading t (drop e a) ≡ 0
-leading_end t a e h = at_drop_all (leading t) a e h
+-- what the specification says of the boxes, in the words of a chain
+pub covers-any : (rs : List Rect) (i j : ℕ) → covers rs i j ≡ list_any (λ r. in_rect r i j) rs
+covers-any [] i j = refl
+covers-any (r ∷ rs) i j = ap (λ b. in_rect r i j || b) (covers-any rs i j)
 
-pub same_step : (u v : List Rect) (i : ℕ) → i < length u → i < length v → (get_or u i blank).left ≡ (get_or v i blank).left → (get_or u i blank).right ≡ (get_or v i blank).right →
-    same_edges (edges (drop i u)) (edges (drop i v)) ≡ same_edges (edges (drop (i + 1) u)) (edges (drop (i + 1) v))
-same_step u v i h k l r =
-    ap₂ (λ y z. same_edges (edges y) (edges z)) (drop_more u i blank h) (drop_more v i blank k)
-    ∙ ap₂ (λ y z. y && (z && same_edges (edges (drop (i + 1) u)) (edges (drop (i + 1) v)))) (eq-eqb _ _ l) (eq-eqb _ _ r)
+pub leading-prefix : (t : ℕ) (rs : List Rect) → leading t rs ≡ prefix_len (λ r. r.top == t) rs
+leading-prefix t [] = refl
+leading-prefix t (r ∷ rs) = let e = leading-prefix t rs in ap (λ (n : ℕ). cond (r.top == t) n 0) (omega arith)
 
-pub same-not-left : (u v : List Rect) (i : ℕ) → i < length u → i < length v → ((get_or u i blank).left ≡ (get_or v i blank).left → ⊥) → same_edges (edges (drop i u)) (edges (drop i v)) ≡ false
-same-not-left u v i h k l =
-    ap₂ (λ y z. same_edges (edges y) (edges z)) (drop_more u i blank h) (drop_more v i blank k)
-    ∙ ap (λ y. y && (eqb (get_or u i blank).right (get_or v i blank).right && same_edges (edges (drop (i + 1) u)) (edges (drop (i + 1) v)))) (ne_eqb _ _ l)
+pub leading-short : (t : ℕ) (xs : List Rect) → leading t xs ≤ length xs
+leading-short t [] = omega arith
+leading-short t (x ∷ xs) = by (x.top == t) (leading-short t xs)
+  where
+    by : (b : Bool) → leading t xs ≤ length xs → cond b (suc (leading t xs)) 0 ≤ suc (length xs)
+    by true k = omega arith
+    by false k = omega arith
 
-pub same-not-right : (u v : List Rect) (i : ℕ) → i < length u → i < length v → ((get_or u i blank).right ≡ (get_or v i blank).right → ⊥) → same_edges (edges (drop i u)) (edges (drop i v)) ≡ false
-same-not-right u v i h k l =
-    ap₂ (λ y z. same_edges (edges y) (edges z)) (drop_more u i blank h) (drop_more v i blank k)
-    ∙ and_right (eqb (get_or u i blank).left (get_or v i blank).left) _ (ap (λ y. y && same_edges (edges (drop (i + 1) u)) (edges (drop (i + 1) v))) (ne_eqb _ _ l))
+abbrev pub dots_one : Rect → ℕ
+dots_one r = (r.right - r.left) * (r.below - r.top)
+
+pub area-sum : (rs : List Rect) → area rs ≡ sum_by dots_one rs
+area-sum rs = is_sum_by area dots_one refl (λ r rs. refl) rs
+
+abbrev pub same_one : Rect × Rect → Bool
+same_one p = p.0.left == p.1.left && p.0.right == p.1.right
+
+pub same-zip : (u v : List Rect) → length u ≡ length v → same_edges (edges u) (edges v) ≡ list_all same_one (zip u v)
+same-zip [] [] h = refl
+same-zip [] (g ∷ v) h = absurd (omega arith)
+same-zip (f ∷ u) [] h = absurd (omega arith)
+same-zip (f ∷ u) (g ∷ v) h = both (f.left == g.left) (f.right == g.right) ∙ ap (λ b. same_one (f, g) && b) (same-zip u v (omega arith))
+  where
+    both : (p q : Bool) → (p && (q && same_edges (edges u) (edges v))) ≡ ((p && q) && same_edges (edges u) (edges v))
+    both true q = refl
+    both false q = refl
 
 pub same-long : (u v : List Rect) → (length u ≡ length v → ⊥) → same_edges (edges u) (edges v) ≡ false
-same-long u v h = go (cases_Bool (same_edges (edges u) (edges v)))
+same-long [] [] h = absurd (h refl)
+same-long [] (g ∷ v) h = refl
+same-long (f ∷ u) [] h = refl
+same-long (f ∷ u) (g ∷ v) h = ap (λ b. f.left == g.left && (f.right == g.right && b)) (same-long u v (λ e. h (omega arith))) ∙ none (f.left == g.left) (f.right == g.right)
   where
-    go : (same_edges (edges u) (edges v) ≡ true) ⊎ (same_edges (edges u) (edges v) ≡ false) → same_edges (edges u) (edges v) ≡ false
-    go (inl e) = absurd (h (omega (arith, ap length (same_true (edges u) (edges v) e), length-edges u, length-edges v)))
-    go (inr e) = e
+    none : (p q : Bool) → (p && (q && false)) ≡ false
+    none true true = refl
+    none true false = refl
+    none false q = refl
 
-pub same-all : (u v : List Rect) (i : ℕ) → length u ≤ i → length v ≤ i → same_edges (edges (drop i u)) (edges (drop i v)) ≡ true
-same-all u v i h k = ap₂ (λ y z. same_edges (edges y) (edges z)) (drop_all i u h) (drop_all i v k)
+-- whether no box has a dot
+pub none-covers : (rs : List Rect) → AllWithin (Empty true) rs 0 (length rs) → NoDots true rs
+none-covers [] h i j = refl
+none-covers (r ∷ rs) h i j = ap (λ b. b || covers rs i j) (h 0 r (omega arith) (omega arith) i j) ∙ none-covers rs (λ k d l m. h (suc k) d (omega arith) (omega arith)) i j
 
-abbrev pub stretched-one : ℕ → Rect → Rect
-stretched-one b r = record { left = r.left; top = r.top; right = r.right; below = b }
+pub some-covers : (rs : List Rect) (k : ℕ) → k < length rs → Empty false (get_or rs k blank) → NoDots false rs
+some-covers [] k l h = absurd (omega arith)
+some-covers (r ∷ rs) zero l h = (r.left, r.top, ap (λ b. b || covers rs r.left r.top) h)
+some-covers (r ∷ rs) (suc k) l h = let q = some-covers rs k (omega arith) h in (q.0, q.1, or_right (in_rect r q.0 q.1) (covers rs q.0 q.1) q.2)
 
-stretched-push : (b : ℕ) (rs : List Rect) (r : Rect) → stretched b (rs ++ r ∷ []) ≡ stretched b rs ++ stretched-one b r ∷ []
-stretched-push b [] r = refl
-stretched-push b (s ∷ rs) r = ap (λ l. stretched-one b s ∷ l) (stretched-push b rs r)
+-- the first i items are changed, and the others are as before
+module _ {A : Type 0} (R : A → A → Type 0) where
+  abbrev pub Changed : ℕ → List A → List A → Type 0
+  Changed zero xs ys = ys ≡ xs
+  Changed (suc i) [] ys = ys ≡ []
+  Changed (suc i) (x ∷ xs) [] = ⊥
+  Changed (suc i) (x ∷ xs) (y ∷ ys) = R x y × Changed i xs ys
 
-pub length-stretched : (b : ℕ) (rs : List Rect) → length (stretched b rs) ≡ length rs
-length-stretched b [] = refl
-length-stretched b (s ∷ rs) = ap suc (length-stretched b rs)
+  changed_more : (i : ℕ) (xs ys : List A) (d q : A) → Changed i xs ys → i < length xs → R (get_or ys i d) q → Changed (suc i) xs (set ys i q)
+  changed_more i [] ys d q h l r = absurd (omega arith)
+  changed_more zero (x ∷ xs) [] d q h l r = absurd (omega (arith, ap length h))
+  changed_more zero (x ∷ xs) (y ∷ ys) d q h l r = (let e : y ≡ x = cc in rw e at r, cc)
+  changed_more (suc i) (x ∷ xs) [] d q h l r = absurd h
+  changed_more (suc i) (x ∷ xs) (y ∷ ys) d q h l r = (h.0, changed_more i xs ys d q h.1 (omega arith) r)
 
-pub stretched-more : (b : ℕ) (s : List Rect) (i : ℕ) → i < length s → set (stretched b (take i s) ++ drop i s) i (stretched-one b (get_or s i blank)) ≡ stretched b (take (i + 1) s) ++ drop (i + 1) s
-stretched-more b s i h =
-    ap (λ l. set (stretched b (take i s) ++ l) i (stretched-one b (get_or s i blank))) (drop_more s i blank h)
-    ∙ (set_at (stretched b (take i s)) (get_or s i blank) (drop (i + 1) s) (stretched-one b (get_or s i blank)) i (length-stretched b (take i s) ∙ length-take-le i s (omega arith))
-    ∙ (sym (append_assoc (stretched b (take i s)) (stretched-one b (get_or s i blank) ∷ []) (drop (i + 1) s))
-    ∙ ap (λ l. l ++ drop (i + 1) s) (sym (ap (stretched b) (take_more s i blank h) ∙ stretched-push b (take i s) (get_or s i blank)))))
+  pub changed_next : (i : ℕ) (xs ys : List A) (d q : A) → Changed i xs ys → i < length xs → R (get_or ys i d) q → Changed (i + 1) xs (set ys i q)
+  changed_next i xs ys d q h l r = subst (λ (n : ℕ). Changed n xs (set ys i q)) (sym (add-one i)) (changed_more i xs ys d q h l r)
 
-pub stretched-all : (b : ℕ) (s : List Rect) (i : ℕ) → length s ≤ i → stretched b (take i s) ++ drop i s ≡ stretched b s
-stretched-all b s i h = ap₂ (λ y z. stretched b y ++ z) (take_all i s h) (drop_all i s h) ∙ append-nil (stretched b s)
+  pub changed-all : (i : ℕ) (xs ys : List A) → Changed i xs ys → length xs ≤ i → AllZip R xs ys
+  changed-all zero [] [] h l = tt
+  changed-all zero [] (y ∷ ys) h l = cc
+  changed-all zero (x ∷ xs) ys h l = absurd (omega arith)
+  changed-all (suc i) [] [] h l = tt
+  changed-all (suc i) [] (y ∷ ys) h l = cc
+  changed-all (suc i) (x ∷ xs) [] h l = h
+  changed-all (suc i) (x ∷ xs) (y ∷ ys) h l = (h.0, changed-all i xs ys h.1 (omega arith))
 
-pub stretched-step : (b : ℕ) (s s₀ : List Rect) (i : ℕ) → s ≡ stretched b (take i s₀) ++ drop i s₀ → i < length s₀ → set s i (stretched-one b (get_or s i blank)) ≡ stretched b (take (i + 1) s₀) ++ drop (i + 1) s₀
-stretched-step b s s₀ i e h =
-    ap₂ (λ y z. set y i (stretched-one b z)) e here ∙ stretched-more b s₀ i h
-  where
-    here : get_or s i blank ≡ get_or s₀ i blank
-    here =
-        ap (λ y. get_or y i blank) (e ∙ ap (λ l. stretched b (take i s₀) ++ l) (drop_more s₀ i blank h))
-        ∙ get_or_at (stretched b (take i s₀)) (get_or s₀ i blank) (drop (i + 1) s₀) blank i (length-stretched b (take i s₀) ∙ length-take-le i s₀ (omega arith))
+pub all_zip-map : {A : Type 0} (R : A → A → Type 0) (f : A → A) → ((x y : A) → R x y → y ≡ f x) → (xs ys : List A) → AllZip R xs ys → ys ≡ map f xs
+all_zip-map R f e [] [] h = refl
+all_zip-map R f e [] (y ∷ ys) h = absurd h
+all_zip-map R f e (x ∷ xs) [] h = absurd h
+all_zip-map R f e (x ∷ xs) (y ∷ ys) h = let p = e x y h.0 in let q = all_zip-map R f e xs ys h.1 in cc

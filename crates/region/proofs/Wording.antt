@@ -1,6 +1,6 @@
 -- Boxes as pairs of words: how parts of the words are parts of the boxes.
 use Rattle.std.proofs.Common.{◌≡◌, ℕ, zero, suc, ◌+◌, ◌-◌, ◌*◌, ◌/◌, ◌%◌, ◌<◌, ◌≤◌, Bool, true, false, cond, ◌&&◌, ◌||◌, List, [], ◌∷◌, ◌++◌, length, get_or, take, drop, set, sym, refl, ap, ◌∙◌, subst, ap₂, arith}
-use Rattle.std.proofs.lemmas.List.{length-take-le, length-drop, drop_all, append-nil}
+use Rattle.std.proofs.lemmas.List.{length-take-le, length-drop, drop_all, take_all, append-nil}
 use borrow.Rule.Slice.PartMut.{put_mid, post_of}
 use Rattle.geometry.specs.declared.Rect.{Rect}
 use Rattle.geometry.specs.Boxes.{blank, in_rect}
@@ -36,6 +36,10 @@ pub rects-part : (p e : ℕ) (ws : List ℕ) → rects (take (2 * e - 2 * p) (dr
 rects-part p e ws =
     let q : 2 * e - 2 * p ≡ 2 * (e - p) = omega arith in
     ap (λ (z : ℕ). rects (take z (drop (2 * p) ws))) q ∙ (rects-take (e - p) (drop (2 * p) ws) ∙ ap (take (e - p)) (rects-drop p ws))
+
+-- &ws[2 * p..]
+pub rects-rest : (p : ℕ) (ws : List ℕ) → rects (take (length ws - 2 * p) (drop (2 * p) ws)) ≡ drop p (rects ws)
+rects-rest p ws = ap rects (take_all (length ws - 2 * p) (drop (2 * p) ws) (omega (arith, length-drop (2 * p) ws))) ∙ rects-drop p ws
 
 pub rects-append : (n : ℕ) (ws vs : List ℕ) → length ws ≡ 2 * n → rects (ws ++ vs) ≡ rects ws ++ rects vs
 rects-append n [] vs h = refl

@@ -1,5 +1,5 @@
 -- A row of boxes in memory, and the set of numbers across that it covers.
-use Rattle.std.specs.Prelude.{◌≡◌, ℕ, ◌/◌, ◌%◌, Bool, false, cond, not, ◌&&◌, ◌||◌, List, [], ◌∷◌, ◌==◌, nat_le, nat_lt, slice_index_or, slice_set}
+use Rattle.std.specs.Prelude.{◌≡◌, ℕ, ◌/◌, ◌%◌, Bool, false, if◌then◌else◌, not, ◌&&◌, ◌||◌, List, [], ◌∷◌, ◌==◌, nat_le, nat_lt, slice_index_or, slice_set}
 use Rattle.geometry.specs.declared.Rect.{Rect}
 use Rattle.geometry.specs.Boxes.{blank}
 use Rattle.region.specs.declared.Op.{Op}
@@ -32,4 +32,4 @@ none = 65535
 -- the boxes once x is written as the n-th edge
 abbrev pub placed : List Rect → ℕ → ℕ → ℕ → ℕ → List Rect
 placed out n x t b =
-    slice_set out (n / 2) (cond (n % 2 == 0) (record { left = x; top = t; right = none; below = b }) (record { left = (slice_index_or out (n / 2) blank).left; top = t; right = x; below = b }))
+    slice_set out (n / 2) (if n % 2 == 0 then record { left = x; top = t; right = none; below = b } else record { left = (slice_index_or out (n / 2) blank).left; top = t; right = x; below = b })

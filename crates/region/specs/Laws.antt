@@ -1,5 +1,5 @@
 -- Laws of regions: statements whose proofs are owed by functions that name them.
-use Rattle.std.specs.Prelude.{◌≡◌, ℕ, suc, ◌*◌, ◌≤◌, Bool, cond, ◌&&◌, List, [], ◌∷◌, length, nat_lt}
+use Rattle.std.specs.Prelude.{◌≡◌, ℕ, suc, ◌*◌, ◌≤◌, Bool, if◌then◌else◌, ◌&&◌, List, [], ◌∷◌, length, nat_lt}
 use Rattle.geometry.specs.declared.Rect.{Rect}
 use Rattle.geometry.specs.Boxes.{in_rect}
 use Rattle.region.specs.Bands.{canon}
@@ -30,7 +30,7 @@ BoxIs = (r : Rect) → Proper r → Canonical (r ∷ [])
 -- the boxes of a region do not overlap: how many of them have a dot
 abbrev pub tally : List Rect → ℕ → ℕ → ℕ
 tally [] i j = 0
-tally (r ∷ rs) i j = cond (in_rect r i j) (suc (tally rs i j)) (tally rs i j)
+tally (r ∷ rs) i j = if in_rect r i j then suc (tally rs i j) else tally rs i j
 
 abbrev pub Apart : Type 0
 Apart = (rs : List Rect) (i j : ℕ) → Canonical rs → tally rs i j ≤ 1

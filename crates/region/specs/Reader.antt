@@ -1,5 +1,5 @@
 -- A reader that goes down a region in canonical form.
-use Rattle.std.specs.Prelude.{◌≡◌, ℕ, suc, ◌-◌, ◌<◌, ◌≤◌, false, cond, List, [], ◌∷◌, length, take, drop, ◌==◌}
+use Rattle.std.specs.Prelude.{◌≡◌, ℕ, suc, ◌-◌, ◌<◌, ◌≤◌, false, if◌then◌else◌, List, [], ◌∷◌, map, length, take, drop, ◌==◌}
 use Rattle.geometry.specs.declared.Rect.{Rect}
 use Rattle.region.specs.declared.Op.{Op}
 use Rattle.region.specs.Edges.{Between, Row, inside}
@@ -35,12 +35,14 @@ pub record Slab (a : List Rect) (p y end next : ℕ) : Type 0 where
 -- how many of the first boxes have this top
 abbrev pub leading : ℕ → List Rect → ℕ
 leading t [] = 0
-leading t (r ∷ rs) = cond (r.top == t) (suc (leading t rs)) 0
+leading t (r ∷ rs) = if r.top == t then suc (leading t rs) else 0
 
 -- the boxes with another end below
+abbrev pub stretched_one : ℕ → Rect → Rect
+stretched_one b r = record { left = r.left; top = r.top; right = r.right; below = b }
+
 abbrev pub stretched : ℕ → List Rect → List Rect
-stretched b [] = []
-stretched b (r ∷ rs) = record { left = r.left; top = r.top; right = r.right; below = b } ∷ stretched b rs
+stretched b rs = map (stretched_one b) rs
 
 -- what is made of two regions
 pub record Combined (op : Op) (a b out : List Rect) (n : ℕ) : Type 0 where

@@ -1,5 +1,5 @@
 -- Boxes moved across and down.
-use Rattle.std.specs.Prelude.{◌≡◌, ℕ, suc, ◌+◌, ◌-◌, ◌*◌, ◌≤◌, min, Bool, ◌&&◌, List, [], ◌∷◌, length, take, ℤ, pos, negsuc, ◌-ℤ◌, Some, None, Option, int_le, nat_le}
+use Rattle.std.specs.Prelude.{◌≡◌, ℕ, suc, ◌+◌, ◌-◌, ◌*◌, ◌≤◌, min, Bool, ◌&&◌, List, [], ◌∷◌, map, length, take, ℤ, pos, negsuc, ◌-ℤ◌, Some, None, Option, int_le, nat_le}
 use Rattle.std.specs.Int.Signed.{mag}
 use Rattle.geometry.specs.Boxes.{on_screen}
 use Rattle.geometry.specs.declared.Rect.{Rect}
@@ -12,8 +12,7 @@ abbrev pub shifted_one : ℕ → ℕ → ℕ → ℕ → Rect → Rect
 shifted_one r l d u b = record { left = b.left + r - l; top = b.top + d - u; right = b.right + r - l; below = b.below + d - u }
 
 abbrev pub shifted : ℕ → ℕ → ℕ → ℕ → List Rect → List Rect
-shifted r l d u [] = []
-shifted r l d u (b ∷ bs) = shifted_one r l d u b ∷ shifted r l d u bs
+shifted r l d u bs = map (shifted_one r l d u) bs
 
 -- each box stays on the desk
 abbrev pub Stays : ℕ → ℕ → ℕ → ℕ → List Rect → Type 0

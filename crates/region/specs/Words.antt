@@ -1,8 +1,9 @@
 -- Boxes in memory: two words a box, left + 65536·top and right + 65536·below.
-use Rattle.std.specs.Prelude.{◌≡◌, ℕ, ◌*◌, ◌/◌, ◌%◌, ◌<◌, ◌≤◌, cond, ◌&&◌, ◌⊎◌, List, [], ◌∷◌, length, take, drop, Some, None, Option, nat_lt}
+use Rattle.std.specs.Prelude.{◌≡◌, ℕ, ◌*◌, ◌/◌, ◌%◌, ◌<◌, ◌≤◌, if◌then◌else◌, ◌&&◌, ◌⊎◌, List, [], ◌∷◌, length, take, drop, Some, None, Option, nat_lt}
 use Rattle.geometry.specs.declared.Rect.{Rect}
 use Rattle.geometry.specs.Boxes.{in_rect}
 use Rattle.region.specs.declared.Op.{Op}
+use Rattle.region.specs.declared.Boxes.{Boxes}
 use Rattle.region.specs.Boxes.{act}
 use Rattle.region.specs.Flat.{covers, Canonical}
 use Rattle.region.specs.Lines.{Roomy}
@@ -15,6 +16,10 @@ abbrev pub rects : List ℕ → List Rect
 rects [] = []
 rects (w ∷ []) = []
 rects (w ∷ v ∷ ws) = unpacked w v ∷ rects ws
+
+-- the boxes that a walk over some words has left
+abbrev pub boxes_left : Boxes → List Rect
+boxes_left b = rects b.words.now
 
 -- the boxes, so many, that lie from the word `at` on
 abbrev pub boxes_at : List ℕ → ℕ → ℕ → List Rect
@@ -34,7 +39,7 @@ Combines op A B room out (Some n) = (Canonical A × Canonical B) × Makes op A B
 
 -- the boxes of what lies in one box: that box, or none
 abbrev pub one : Rect → List Rect
-one r = cond (nat_lt r.left r.right && nat_lt r.top r.below) (r ∷ []) []
+one r = if nat_lt r.left r.right && nat_lt r.top r.below then r ∷ [] else []
 
 -- the first n boxes of the words `after` are a region that covers one box; the words behind are as before
 pub record Boxed (r : Rect) (before after : List ℕ) (n : ℕ) : Type 0 where

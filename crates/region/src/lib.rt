@@ -2,7 +2,10 @@
 // In memory a box is two words, left + 65536 · top and right + 65536 · below; a region is a slice of these.
 #![tactic(auto)]
 
-ghost use Rattle.std.specs.Prelude.{◌≡◌, ℕ, ◌+◌, ◌-◌, ◌*◌, ◌/◌, ◌%◌, ◌^◌, ◌<◌, ◌≤◌, min, true, false, [], ◌∷◌, length, take, drop, if◌then◌else◌, Decides, MatchOption, nat_eq, slice_index_or, slice_set};
+ghost use Rattle.std.specs.Prelude.{◌≡◌, ℕ, ◌+◌, ◌-◌, ◌*◌, ◌/◌, ◌%◌, ◌^◌, ◌<◌, ◌≤◌, min, true, false, [], ◌∷◌, length, take, drop, if◌then◌else◌, Decides, MatchOption, ◌==◌, slice_index_or, slice_set};
+ghost use Rattle.std.specs.List.{AllZip};
+ghost use Rattle.std.specs.Iterator.{YieldsFirst, item_count};
+ghost use Rattle.std.specs.Iterator.Runs.{YieldsInOrder};
 ghost use Rattle.geometry.specs.Boxes.{blank};
 ghost use Rattle.region.specs.Edges.{Between, inside};
 ghost use Rattle.region.specs.Boxes.{edges, act, across, Rows, none, placed};
@@ -10,13 +13,14 @@ ghost use Rattle.region.specs.Bands.{same_edges};
 ghost use Rattle.region.specs.Flat.{covers, Canonical};
 ghost use Rattle.region.specs.Lines.{Roomy};
 ghost use Rattle.region.specs.Checks.{fits_band, in_band, follows_on};
-ghost use Rattle.region.specs.Words.{rects, one, Makes, Combines, BoxesOne};
+ghost use Rattle.region.specs.Words.{unpacked, rects, boxes_left, one, Makes, Combines, BoxesOne};
 ghost use Rattle.region.specs.Shift.{shifted, shifted_one, Stays, steps_forth, steps_back, coming, Moves};
 ghost use Rattle.region.specs.Dots.{area, Counts, NoDots};
 ghost use Rattle.region.specs.Laws.{Unique, Found, Few, BoxIs, Apart, Measured};
 ghost use Rattle.region.specs.Reader.{Rest, Slab, leading, stretched};
 
 use geometry::{BLANK, Rect};
+use halves::{halves, word};
 
 // What is made of two sets.
 #[derive(Clone, Copy)]
@@ -26,11 +30,47 @@ pub enum Op {
     Cut,
 }
 
+// An enum and one match: with a closure in its place `F.post` would have to say at each call what `act` says once.
+impl Op {
+    // Whether a dot that is in a and in b or not is in what this makes of them.
+    fn holds(self, a: bool, b: bool) -> bool
+        ensures { result ≡ act self a b }
+    {
+        match self {
+            Op::Join => a || b,
+            Op::Meet => a && b,
+            Op::Cut => a && !b,
+        }
+    }
+}
+
 // A desk has at most so many columns and rows.
 const SIDE: u16 = 4096;
 
 // The edge after the last of a row, and the row at which no band ends.
 const NONE: u16 = 65535;
+
+// The two words of a box.
+pub fn words_of(r: Rect) -> [u32; 2]
+    ensures are { result ≡ (r.left + r.top * 65536) ∷ (r.right + r.below * 65536) ∷ [] }
+    ensures boxes { rects result ≡ r ∷ [] }
+{
+    [word(r.left, r.top), word(r.right, r.below)]
+}
+
+// The box of two words.
+fn rect_of(a: u32, b: u32) -> Rect
+    ensures { result ≡ unpacked a b }
+{
+    let (left, top) = halves(a);
+    let (right, below) = halves(b);
+    Rect {
+        left,
+        top,
+        right,
+        below,
+    }
+}
 
 // The i-th box of some words; past the last, the box with no dots.
 pub fn rect_at(s: &[u32], i: usize) -> Rect
@@ -39,14 +79,37 @@ pub fn rect_at(s: &[u32], i: usize) -> Rect
     if i >= s.len() / 2 {
         return BLANK;
     }
-    let a = s[2 * i];
-    let b = s[2 * i + 1];
-    Rect {
-        left: (a % 65536) as u16,
-        top: (a / 65536) as u16,
-        right: (b % 65536) as u16,
-        below: (b / 65536) as u16,
+    rect_of(s[2 * i], s[2 * i + 1])
+}
+
+// The boxes of some words, one after the other; an odd last word is none.
+#[derive(Drop)]
+struct Boxes<'a> {
+    words: &'a [u32],
+}
+
+impl<'a> Iterator for Boxes<'a> {
+    type Item = Rect;
+
+    ghost next_gives = { YieldsFirst boxes_left };
+
+    ghost remaining = { item_count boxes_left };
+
+    fn next(&mut self) -> Option<Rect> {
+        let [a, b, rest @ ..] = self.words else {
+            return None;
+        };
+        self.words = rest;
+        Some(rect_of(*a, *b))
     }
+}
+
+// The boxes of some words.
+fn boxes_of(s: &[u32]) -> Boxes<'_>
+    ensures value { boxes_left result ≡ rects s.now }
+    ensures runs { YieldsInOrder (YieldsFirst boxes_left) boxes_left }
+{
+    Boxes { words: s }
 }
 
 // Writes r as the i-th box of some words.
@@ -55,18 +118,19 @@ fn put_rect(s: &mut [u32], i: usize, r: Rect)
     ensures boxes { rects s.new ≡ slice_set (rects s.old) i r }
     ensures words { s.new ≡ slice_set (slice_set s.old (2 * i) (r.left + r.top * 65536)) (2 * i + 1) (r.right + r.below * 65536) }
 {
-    s[2 * i] = r.left as u32 + r.top as u32 * 65536;
-    s[2 * i + 1] = r.right as u32 + r.below as u32 * 65536;
+    let [a, b] = words_of(r);
+    s[2 * i] = a;
+    s[2 * i + 1] = b;
 }
 
-// The two words of a box.
-pub fn words_of(r: Rect) -> [u32; 2]
-    ensures { rects result ≡ r ∷ [] }
+// Writes f of each box in its place. By index: of what a mutable iterator wrote a proof would know nothing.
+fn change_boxes<F: Fn(Rect) -> Rect>(s: &mut [u32], f: F)
+    requires { F.IsAlwaysCallable f }
+    ensures { AllZip (F.post f) (rects s.old) (rects s.new) }
 {
-    [
-        r.left as u32 + r.top as u32 * 65536,
-        r.right as u32 + r.below as u32 * 65536,
-    ]
+    for i in 0..s.len() / 2 {
+        put_rect(s, i, f(rect_at(s, i)));
+    }
 }
 
 // The k-th place where the row of boxes begins or ends, and NONE past the last.
@@ -78,17 +142,6 @@ fn edge(a: &[u32], k: usize) -> u16
     }
     let r = rect_at(a, k / 2);
     if k % 2 == 0 { r.left } else { r.right }
-}
-
-// Whether a dot that is in a and in b or not is in what `op` makes of them.
-fn holds(op: Op, a: bool, b: bool) -> bool
-    ensures { result ≡ act op a b }
-{
-    match op {
-        Op::Join => a || b,
-        Op::Meet => a && b,
-        Op::Cut => a && !b,
-    }
 }
 
 // Writes x as the n-th edge of a row of boxes whose first n edges stand in out.
@@ -117,12 +170,13 @@ fn put_edge(out: &mut [u32], n: usize, x: u16, top: u16, below: u16)
 // One past k if the k-th edge is x.
 fn passed(a: &[u32], k: usize, x: u16) -> usize
     requires { k < 2 ^ 32 }
-    ensures { result ≡ (if nat_eq (slice_index_or (edges (rects a.now)) k none) x then k + 1 else k) }
+    ensures { result ≡ (if slice_index_or (edges (rects a.now)) k none == x then k + 1 else k) }
 {
     if edge(a, k) == x { k + 1 } else { k }
 }
 
 // Writes the boxes of one row that cover what `op` makes of the rows a and b, and says how many.
+// Each row keeps its place by a number, since the next edge of the two is not always the same row's.
 fn combine_row(a: &[u32], b: &[u32], op: Op, top: u16, below: u16, out: &mut [u32]) -> usize
     requires left { Between 0 (edges (rects a.now)) 4097 }
     requires right { Between 0 (edges (rects b.now)) 4097 }
@@ -143,7 +197,7 @@ fn combine_row(a: &[u32], b: &[u32], op: Op, top: u16, below: u16, out: &mut [u3
         }
         p = passed(a, p, x);
         q = passed(b, q, x);
-        let inside = holds(op, p % 2 == 1, q % 2 == 1);
+        let inside = op.holds(p % 2 == 1, q % 2 == 1);
         if inside != (n % 2 == 1) {
             put_edge(out, n, x, top, below);
             n += 1;
@@ -156,68 +210,95 @@ fn band_end(a: &[u32], p: usize, top: u16) -> usize
     requires { p ≤ length a.now / 2 }
     ensures { result ≡ p + leading top (drop p (rects a.now)) }
 {
-    let mut end = p;
-    'run: while end < a.len() / 2 {
-        let r = rect_at(a, end);
-        if r.top != top {
-            return end;
-        }
-        end += 1;
-    }
-    end
+    p + boxes_of(&a[2 * p..]).take_while(|r| r.top == top).count()
 }
 
-// The boxes of the row y stand from p up to the first answer, and the rows from y up to the second are like it.
-fn band(a: &[u32], p: usize, y: u16) -> (usize, u16)
+// The boxes of one row of a region, from the box `from` up to the box `end`; the rows up to `below` are like it.
+#[derive(Clone, Copy)]
+struct Band {
+    from: usize,
+    end: usize,
+    below: u16,
+    ghost ordered: { from ≤ end },
+}
+
+impl Band {
+    // How many boxes it has.
+    fn len(self) -> usize
+        ensures { result ≡ self.end - self.from }
+    {
+        self.end - self.from
+    }
+
+    // Its words, of those of its region.
+    fn words(self, a: &[u32]) -> &[u32]
+        requires { 2 * self.end ≤ length a.now }
+        ensures boxes { rects result.now ≡ take (self.end - self.from) (drop self.from (rects a.now)) }
+        ensures long { length (rects result.now) ≡ self.end - self.from }
+    {
+        &a[2 * self.from..2 * self.end]
+    }
+
+    // Where a reader stands at the row `to`: past the boxes where the band ends there.
+    fn onward(self, to: u16) -> usize
+        ensures { result ≡ (if self.below == to then self.end else self.from) }
+    {
+        if self.below == to {
+            self.end
+        } else {
+            self.from
+        }
+    }
+}
+
+// The band of the row y, whose boxes begin at p if it has some.
+fn band_at(a: &[u32], p: usize, y: u16) -> Band
     requires { Rest (rects a.now) p y }
-    ensures slab { Slab (rects a.now) p y result.0 result.1 }
-    ensures within { (p ≤ result.0) × (2 * result.0 ≤ length a.now) }
+    ensures from { result.from ≡ p }
+    ensures slab { Slab (rects a.now) p y result.end result.below }
+    ensures within { 2 * result.end ≤ length a.now }
 {
     if p >= a.len() / 2 {
-        return (p, NONE);
+        return Band {
+            from: p,
+            end: p,
+            below: NONE,
+        };
     }
     let first = rect_at(a, p);
     if y < first.top {
-        return (p, first.top);
+        return Band {
+            from: p,
+            end: p,
+            below: first.top,
+        };
     }
-    (band_end(a, p, first.top), first.below)
-}
-
-// Where a reader stands at the row `to`, whose band ends at the row `next`.
-fn onward(p: usize, end: usize, next: u16, to: u16) -> usize
-    ensures { result ≡ (if nat_eq next to then end else p) }
-{
-    if next == to { end } else { p }
+    Band {
+        from: p,
+        end: band_end(a, p, first.top),
+        below: first.below,
+    }
 }
 
 // Whether the boxes of two rows stand at the same places across.
 fn same_row(u: &[u32], v: &[u32]) -> bool
     ensures { result ≡ same_edges (edges (rects u.now)) (edges (rects v.now)) }
 {
-    if u.len() / 2 != v.len() / 2 {
-        return false;
-    }
-    'each: for i in 0..u.len() / 2 {
-        let f = rect_at(u, i);
-        let g = rect_at(v, i);
-        if f.left != g.left || f.right != g.right {
-            return false;
-        }
-    }
-    true
+    u.len() / 2 == v.len() / 2
+        && boxes_of(u)
+            .zip(boxes_of(v))
+            .all(|(f, g)| f.left == g.left && f.right == g.right)
 }
 
 // Has the boxes of a band end at another row.
 fn stretch(s: &mut [u32], below: u16)
     ensures { rects s.new ≡ stretched below (rects s.old) }
 {
-    'each: for i in 0..s.len() / 2 {
-        let r = rect_at(s, i);
-        put_rect(s, i, Rect { below, ..r });
-    }
+    change_boxes(s, |r| Rect { below, ..r });
 }
 
 // Writes the boxes of what `op` makes of the regions a and b, and says how many; None if out is too short.
+// The boxes before p and q are passed; in out, the last band begins at m and ends at n.
 fn sweep(a: &[u32], b: &[u32], op: Op, out: &mut [u32]) -> Option<usize>
     requires left { Canonical (rects a.now) }
     requires right { Canonical (rects b.now) }
@@ -229,23 +310,16 @@ fn sweep(a: &[u32], b: &[u32], op: Op, out: &mut [u32]) -> Option<usize>
     let mut m: usize = 0;
     let mut n: usize = 0;
     'bands: loop {
-        let (pe, ya) = band(a, p, y);
-        let (qe, yb) = band(b, q, y);
-        let to = ya.min(yb);
+        let u = band_at(a, p, y);
+        let v = band_at(b, q, y);
+        let to = u.below.min(v.below);
         if to == NONE {
             return Some(n);
         }
-        if out.len() / 2 - n < (pe - p) + (qe - q) {
+        if out.len() / 2 - n < u.len() + v.len() {
             return None;
         }
-        let k = combine_row(
-            &a[2 * p..2 * pe],
-            &b[2 * q..2 * qe],
-            op,
-            y,
-            to,
-            &mut out[2 * n..],
-        );
+        let k = combine_row(u.words(a), v.words(b), op, y, to, &mut out[2 * n..]);
         if same_row(&out[2 * m..2 * n], &out[2 * n..2 * (n + k)]) {
             stretch(&mut out[2 * m..2 * n], to);
         } else {
@@ -253,8 +327,8 @@ fn sweep(a: &[u32], b: &[u32], op: Op, out: &mut [u32]) -> Option<usize>
             n += k;
         }
         y = to;
-        p = onward(p, pe, ya, to);
-        q = onward(q, qe, yb, to);
+        p = u.onward(to);
+        q = v.onward(to);
     }
 }
 
@@ -270,8 +344,7 @@ fn in_band(s: &[u32], top: u16, below: u16) -> bool
     ensures { result ≡ in_band top below 0 (rects s.now) }
 {
     let mut low: u16 = 0;
-    'each: for i in 0..s.len() / 2 {
-        let r = rect_at(s, i);
+    for r in boxes_of(s) {
         if !fits(r, top, below, low) {
             return false;
         }
@@ -291,7 +364,7 @@ fn follows(above: &[u32], y: u16, band: &[u32], first: Rect) -> bool
         && !(y == first.top && same_row(above, band))
 }
 
-// Whether some boxes are a region. One walk: each band is seen with the one above it.
+// Whether some boxes are a region. One walk, a band at each step and not a box, with the band above it in view.
 pub fn is_region(a: &[u32]) -> bool
     ensures { Decides result (Canonical (rects a.now)) }
 {
@@ -337,67 +410,54 @@ pub fn from_rect(r: Rect, out: &mut [u32]) -> Option<usize>
 
 // The dots of a region that lie in a box too: so many boxes at the start of `out`.
 fn meet_rect(a: &[u32], r: Rect, out: &mut [u32]) -> Option<usize>
-    requires { (r.right ≤ 4096) × (r.below ≤ 4096) }
+    requires on_right { r.right ≤ 4096 }
+    requires on_below { r.below ≤ 4096 }
     ensures { Combines Op.Meet (rects a.now) (one r) (length out.old / 2) out.new result }
 {
     let mut words: [u32; 2] = [0; 2];
     let Some(k) = from_rect(r, &mut words) else {
         return unreachable();
     };
-    combine(a, &words[0..2 * k], Op::Meet, out)
+    combine(a, &words[..2 * k], Op::Meet, out)
 }
 
-// How far a distance goes forth: to the right, or down.
-fn forth(d: i16) -> u16
-    ensures { result ≡ steps_forth d }
+// The place that comes to x, when all go d to the right or down; the desk's end for one past it.
+fn before(x: u16, d: i16) -> u16
+    ensures { result ≡ min (x + steps_back d - steps_forth d) 4096 }
 {
-    if d < 0 { 0 } else { d as u16 }
+    x.saturating_sub_signed(d).min(SIDE)
 }
 
-// How far it goes back: to the left, or up.
-fn back(d: i16) -> u16
-    ensures within { result ≤ 32768 }
-    ensures value { result ≡ steps_back d }
-{
-    if d < 0 { (-(d as i32)) as u16 } else { 0 }
-}
-
-// The dots that come to lie on the screen, when all go so far to the right and to the left, down and up.
-fn source(right: u16, left: u16, low: u16, up: u16, across: u16, down: u16) -> Rect
-    requires { (left ≤ 32768) × (up ≤ 32768) }
-    ensures { result ≡ coming right left low up across down }
+// The dots that come to lie on the screen, when all go dx to the right and dy down.
+fn source(dx: i16, dy: i16, across: u16, down: u16) -> Rect
+    ensures { result ≡ coming (steps_forth dx) (steps_back dx) (steps_forth dy) (steps_back dy) across down }
 {
     Rect {
-        left: left.min(SIDE),
-        top: up.min(SIDE),
-        right: (across.min(SIDE) + left).saturating_sub(right).min(SIDE),
-        below: (down.min(SIDE) + up).saturating_sub(low).min(SIDE),
+        left: before(0, dx),
+        top: before(0, dy),
+        right: before(across.min(SIDE), dx),
+        below: before(down.min(SIDE), dy),
     }
 }
 
-// A box so many dots to the right and down, and then to the left and up.
-fn moved(b: Rect, right: u16, left: u16, low: u16, up: u16) -> Rect
-    requires { (Stays right left low up (b ∷ [])) × ((left ≤ 32768) × (up ≤ 32768)) }
-    ensures { result ≡ shifted_one right left low up b }
+// A box dx to the right and dy down.
+fn moved(b: Rect, dx: i16, dy: i16) -> Rect
+    ensures { Stays (steps_forth dx) (steps_back dx) (steps_forth dy) (steps_back dy) (b ∷ []) → result ≡ shifted_one (steps_forth dx) (steps_back dx) (steps_forth dy) (steps_back dy) b }
 {
     Rect {
-        left: b.left + right - left,
-        top: b.top + low - up,
-        right: b.right + right - left,
-        below: b.below + low - up,
+        left: b.left.saturating_add_signed(dx),
+        top: b.top.saturating_add_signed(dy),
+        right: b.right.saturating_add_signed(dx),
+        below: b.below.saturating_add_signed(dy),
     }
 }
 
-// Moves each box, so many dots to the right and down, and then to the left and up.
-fn move_boxes(s: &mut [u32], right: u16, left: u16, low: u16, up: u16)
-    requires stays { Stays right left low up (rects s.old) }
-    requires small { (left ≤ 32768) × (up ≤ 32768) }
-    ensures { rects s.new ≡ shifted right left low up (rects s.old) }
+// Moves each box dx to the right and dy down.
+fn move_boxes(s: &mut [u32], dx: i16, dy: i16)
+    requires { Stays (steps_forth dx) (steps_back dx) (steps_forth dy) (steps_back dy) (rects s.old) }
+    ensures { rects s.new ≡ shifted (steps_forth dx) (steps_back dx) (steps_forth dy) (steps_back dy) (rects s.old) }
 {
-    'each: for i in 0..s.len() / 2 {
-        let b = rect_at(s, i);
-        put_rect(s, i, moved(b, right, left, low, up));
-    }
+    change_boxes(s, |b| moved(b, dx, dy));
 }
 
 // Writes the region a, moved by dx columns and dy rows, as far as it then lies on a screen, and says how many boxes it has.
@@ -405,15 +465,8 @@ fn move_boxes(s: &mut [u32], right: u16, left: u16, low: u16, up: u16)
 pub fn shift(a: &[u32], dx: i16, dy: i16, across: u16, down: u16, out: &mut [u32]) -> Option<usize>
     ensures { Moves (rects a.now) dx dy across down (length out.old / 2) out.new result }
 {
-    let right = forth(dx);
-    let left = back(dx);
-    let low = forth(dy);
-    let up = back(dy);
-    let from = source(right, left, low, up, across, down);
-    let Some(n) = meet_rect(a, from, out) else {
-        return None;
-    };
-    move_boxes(&mut out[0..2 * n], right, left, low, up);
+    let n = meet_rect(a, source(dx, dy, across, down), out)?;
+    move_boxes(&mut out[..2 * n], dx, dy);
     Some(n)
 }
 
@@ -421,26 +474,14 @@ pub fn shift(a: &[u32], dx: i16, dy: i16, across: u16, down: u16, out: &mut [u32
 pub fn contains(a: &[u32], i: u16, j: u16) -> bool
     ensures { result ≡ covers (rects a.now) i j }
 {
-    'each: for k in 0..a.len() / 2 {
-        let r = rect_at(a, k);
-        if r.contains(i, j) {
-            return true;
-        }
-    }
-    false
+    boxes_of(a).any(|r| r.contains(i, j))
 }
 
 // Whether no box has a dot. Of a region the first box tells.
 pub fn is_empty(a: &[u32]) -> bool
     ensures { NoDots result (rects a.now) }
 {
-    'each: for n in 0..a.len() / 2 {
-        let r = rect_at(a, n);
-        if !r.is_empty() {
-            return false;
-        }
-    }
-    true
+    boxes_of(a).all(|r| r.is_empty())
 }
 
 // The dots of all boxes.
@@ -448,12 +489,9 @@ fn dots_of(a: &[u32]) -> u32
     requires { Canonical (rects a.now) }
     ensures { result ≡ area (rects a.now) }
 {
-    let mut n: u32 = 0;
-    'each: for i in 0..a.len() / 2 {
-        let r = rect_at(a, i);
-        n += r.wide() as u32 * r.high() as u32;
-    }
-    n
+    boxes_of(a)
+        .map(|r| u32::from(r.wide()) * u32::from(r.high()))
+        .sum()
 }
 
 // How many dots a region has; None if the boxes are no region.

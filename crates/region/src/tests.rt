@@ -111,17 +111,20 @@ const CASES: [Case; 14] = [
     },
 ];
 
+fn rect([left, top, right, below]: [u16; 4]) -> Rect {
+    Rect {
+        left,
+        top,
+        right,
+        below,
+    }
+}
+
 // How many boxes come before the first that stands for none.
 fn some(boxes: &[[u16; 4]]) -> usize
     ensures { result ≤ length boxes.now }
 {
-    'each: for i in 0..boxes.len() {
-        let [_, _, right, _] = boxes[i];
-        if right == 0 {
-            return i;
-        }
-    }
-    boxes.len()
+    boxes.iter().take_while(|b| b[2] != 0).count()
 }
 
 // Writes those boxes into words, as many as there is room for, and says how many words they take.
@@ -129,18 +132,8 @@ fn put_all(boxes: &[[u16; 4]], out: &mut [u32]) -> usize
     ensures { result ≤ length out.old }
 {
     let n = some(boxes).min(out.len() / 2);
-    'each: for i in 0..n {
-        let [left, top, right, below] = boxes[i];
-        put_rect(
-            out,
-            i,
-            Rect {
-                left,
-                top,
-                right,
-                below,
-            },
-        );
+    for (i, b) in boxes[..n].iter().enumerate() {
+        put_rect(out, i, rect(*b));
     }
     2 * n
 }
@@ -148,48 +141,37 @@ fn put_all(boxes: &[[u16; 4]], out: &mut [u32]) -> usize
 // Whether the first n boxes of some words are these.
 fn same(rt: &impl Abort, words: &[u32], n: usize, want: &[[u16; 4]]) {
     assert_eq!(rt; n, some(want));
-    'each: for i in 0..some(want) {
-        let [left, top, right, below] = want[i];
-        let r = rect_at(words, i);
-        assert!(rt; r.left == left && r.top == top && r.right == right && r.below == below);
+    for (i, b) in want[..some(want)].iter().enumerate() {
+        assert_eq!(rt; rect_at(words, i), rect(*b));
     }
 }
 
-fn holds_of(rt: &impl Abort, c: Case) -> Result<(), Fail> {
+fn holds_of(rt: &impl Abort, c: &Case) -> Result<(), Fail> {
     let mut left = [0u32; 4];
     let mut right = [0u32; 4];
     let mut out = [0u32; 32];
     let p = put_all(&c.a, &mut left);
     let q = put_all(&c.b, &mut right);
-    let n = combine(&left[0..p], &right[0..q], c.op, &mut out).ok_or("none")?;
+    let n = combine(&left[..p], &right[..q], c.op, &mut out).ok_or("none")?;
     same(rt, &out, n, &c.want);
     Ok(())
 }
 
 #[test]
 fn table(rt: HostRuntime) -> Result<(), Fail> {
-    'each: for i in 0..14usize {
-        holds_of(&rt, CASES[i])?;
+    for c in &CASES {
+        holds_of(&rt, c)?;
     }
     Ok(())
 }
 
 // Writes the teeth of a comb, five columns wide and five apart, as many as there is room for.
 fn put_comb(out: &mut [u32], teeth: u16) {
-    'each: for k in 0..teeth {
+    for k in 0..teeth {
         let left = 10 * (k % 64) + 2;
-        let i = k as usize;
+        let i = usize::from(k);
         if i < out.len() / 2 {
-            put_rect(
-                out,
-                i,
-                Rect {
-                    left,
-                    top: 0,
-                    right: left + 5,
-                    below: 100,
-                },
-            );
+            put_rect(out, i, rect([left, 0, left + 5, 100]));
         }
     }
 }
@@ -197,20 +179,15 @@ fn put_comb(out: &mut [u32], teeth: u16) {
 // A screen cut by a comb of 64 teeth, and joined with it again.
 #[test]
 fn comb(rt: HostRuntime) -> Result<(), Fail> {
-    let screen = words_of(Rect {
-        left: 0,
-        top: 0,
-        right: 640,
-        below: 480,
-    });
+    let screen = words_of(rect([0, 0, 640, 480]));
     let mut teeth = [0u32; 128];
     let mut rest = [0u32; 512];
     let mut back = [0u32; 512];
     put_comb(&mut teeth, 64);
     let n = combine(&screen, &teeth, Op::Cut, &mut rest).ok_or("none")?;
     assert_eq!(rt; n, 66);
-    assert_eq!(rt; count(&rest[0..132]), Some(640 * 480 - 64 * 500));
-    let m = combine(&rest[0..132], &teeth, Op::Join, &mut back).ok_or("none")?;
+    assert_eq!(rt; count(&rest[..132]), Some(640 * 480 - 64 * 500));
+    let m = combine(&rest[..132], &teeth, Op::Join, &mut back).ok_or("none")?;
     same(&rt, &back, m, &[[0, 0, 640, 480]]);
     Ok(())
 }
@@ -221,9 +198,9 @@ fn moves(rt: HostRuntime) -> Result<(), Fail> {
     let mut a = [0u32; 4];
     let mut out = [0u32; 32];
     let p = put_all(&[[0, 0, 4, 2], [0, 2, 6, 4]], &mut a);
-    let n = shift(&a[0..p], 3, -1, 20, 20, &mut out).ok_or("none")?;
+    let n = shift(&a[..p], 3, -1, 20, 20, &mut out).ok_or("none")?;
     same(&rt, &out, n, &[[3, 0, 7, 1], [3, 1, 9, 3]]);
-    let m = shift(&a[0..p], 17, 0, 20, 20, &mut out).ok_or("none")?;
+    let m = shift(&a[..p], 17, 0, 20, 20, &mut out).ok_or("none")?;
     same(&rt, &out, m, &[[17, 0, 20, 4]]);
     Ok(())
 }
@@ -234,9 +211,9 @@ fn refusals(rt: HostRuntime) {
     let mut a = [0u32; 6];
     let mut out = [0u32; 4];
     let p = put_all(&[[0, 0, 2, 2], [2, 0, 4, 2]], &mut a);
-    assert!(rt; !is_region(&a[0..p]) && !is_empty(&a[0..p]));
-    assert!(rt; contains(&a[0..p], 3, 1) && !contains(&a[0..p], 4, 1));
-    assert_eq!(rt; combine(&a[0..p], &[], Op::Join, &mut out), None);
+    assert!(rt; !is_region(&a[..p]) && !is_empty(&a[..p]));
+    assert!(rt; contains(&a[..p], 3, 1) && !contains(&a[..p], 4, 1));
+    assert_eq!(rt; combine(&a[..p], &[], Op::Join, &mut out), None);
     let q = put_all(&[[0, 0, 2, 2], [3, 0, 4, 2], [5, 0, 6, 2]], &mut a);
-    assert_eq!(rt; combine(&a[0..q], &[], Op::Join, &mut out), None);
+    assert_eq!(rt; combine(&a[..q], &[], Op::Join, &mut out), None);
 }

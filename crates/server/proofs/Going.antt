@@ -1,5 +1,5 @@
 -- The loop over the events of a call: what is left of it gives what all of it gives.
-use Rattle.std.proofs.Common.{◌≡◌, ℕ, zero, suc, ◌+◌, ◌-◌, ◌<◌, ◌≤◌, List, [], ◌∷◌, ◌++◌, length, drop, Some, None, Ok, Err, Option, sym, refl, ap, ◌∙◌, subst, arith}
+use Rattle.std.proofs.Common.{◌≡◌, ℕ, zero, suc, ◌+◌, ◌-◌, ◌<◌, ◌≤◌, List, [], ◌∷◌, ◌++◌, length, drop, Some, None, Ok, Option, sym, refl, ap, ◌∙◌, subst, arith}
 use Rattle.std.proofs.lemmas.Bool.{lt-ltb, le-ltb}
 use Rattle.model.specs.Desk.{Desk, Sizes, Event, Word, after, run}
 use Rattle.model.specs.System.{System, happens}
@@ -13,7 +13,7 @@ use Rattle.layout.specs.declared.budget.Used.{Used}
 use Rattle.damage.specs.Encode.{encode, Sent}
 use Rattle.damage.specs.Cover.{cover, sends_at}
 use Rattle.server.specs.Told.{told_bytes, AllCarried}
-use Rattle.server.specs.Course.{Reading, stop, before, next, one_more, reading, read_call, unused, holding, sent_by, told_by}
+use Rattle.server.specs.Course.{Reading, stop, before, next, unless, one_more, reading, read_call, unused, holding, sent_by, told_by}
 use Rattle.server.proofs.Boxes.{encode-append}
 use Rattle.server.proofs.Owning.{told_bytes-append}
 use Rattle.server.specs.Promise.{Ran}
@@ -104,12 +104,13 @@ module _ (z : Sizes) (call : List ℕ) (lent : Lent) (at : ℕ) (used : Used) (f
       go : reading (suc (f - 1)) z call lent at used ≡ next at (λ m. reading (f - 1) z call lent m (one_more z used)) r
       go = rw (lt-ltb at (length call) h, b, e)
 
-  reading-refused : (why : ℕ × ℕ) → event_refusal z lent used ≡ Some why → reading f z call lent at used ≡ stop at (Some why)
+  reading-stopped : (why : ℕ × ℕ) → ((go : ℕ → Reading) → unless at (event_refusal z lent used) (next at go (read_event z.built z.programs call at)) ≡ stop at (Some why)) →
+      reading f z call lent at used ≡ stop at (Some why)
   unfolding reading
-  reading-refused why b = ap (λ g. reading g z call lent at used) fuelled ∙ go
+  reading-stopped why b = ap (λ g. reading g z call lent at used) fuelled ∙ go
     where
       go : reading (suc (f - 1)) z call lent at used ≡ stop at (Some why)
-      go = rw (lt-ltb at (length call) h, b)
+      go = rw (lt-ltb at (length call) h) (b (λ m. reading (f - 1) z call lent m (one_more z used)))
 
 reading-over : (f : ℕ) (z : Sizes) (call : List ℕ) (lent : Lent) (at : ℕ) (used : Used) → length call ≤ at → reading f z call lent at used ≡ stop at None
 unfolding reading
@@ -145,13 +146,9 @@ module _ (z : Sizes) (call : List ℕ) (lent : Lent) (d₀ : Desk) (sent words :
         refusal = k ∙ over.refusal;
       }
 
-  pub going-refused : (o : Outcome) (why : ℕ × ℕ) → at < length call → event_refusal z lent used ≡ Some why → o.events ≡ n → o.read ≡ at → o.sent ≡ ns → o.words ≡ nw → numbered o.refusal ≡ Some why →
-      Ran z (read_call z call lent) d₀ sent words d sent' words' o
-  going-refused o why h b = ends o (Some why) (reading-refused z call lent at used g.fuel g.enough h why b)
-
-  pub going-fault : (o : Outcome) (m : ℕ) → at < length call → event_refusal z lent used ≡ None → Err m ≡ read_event z.built z.programs call at → o.events ≡ n → o.read ≡ at → o.sent ≡ ns → o.words ≡ nw →
-      numbered o.refusal ≡ Some (3, m) → Ran z (read_call z call lent) d₀ sent words d sent' words' o
-  going-fault o m h b p = ends o (Some (3, m)) (reading-more z call lent at used g.fuel g.enough h b (Err m) p)
+  pub going-stopped : (o : Outcome) (why : ℕ × ℕ) → at < length call → ((go : ℕ → Reading) → unless at (event_refusal z lent used) (next at go (read_event z.built z.programs call at)) ≡ stop at (Some why)) →
+      o.events ≡ n → o.read ≡ at → o.sent ≡ ns → o.words ≡ nw → numbered o.refusal ≡ Some why → Ran z (read_call z call lent) d₀ sent words d sent' words' o
+  going-stopped o why h b = ends o (Some why) (reading-stopped z call lent at used g.fuel g.enough h why b)
 
   pub going-over : (o : Outcome) → length call ≤ at → o.events ≡ n → o.read ≡ at → o.sent ≡ ns → o.words ≡ nw → numbered o.refusal ≡ None → Ran z (read_call z call lent) d₀ sent words d sent' words' o
   going-over o h = ends o None (reading-over g.fuel z call lent at used h)

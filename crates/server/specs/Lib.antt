@@ -6,3 +6,4 @@ pub mod Mailbox
 pub mod MailboxLaws
 pub mod History
 pub mod Rows
+pub mod Next

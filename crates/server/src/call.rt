@@ -7,6 +7,7 @@ ghost use Rattle.layout.specs.Sizes.{sizes_of};
 ghost use Rattle.layout.specs.Sizes.{built as built_kinds};
 ghost use Rattle.layout.specs.State.{Good, desk_of};
 ghost use Rattle.server.specs.Course.{read_call};
+ghost use Rattle.server.specs.Next.{Next};
 ghost use Rattle.server.specs.Promise.{Ran, Promised};
 
 use crate::outcome::Outcome;
@@ -16,7 +17,7 @@ use layout::load::{load, load_refusal};
 use layout::sizes::{Refusal, Sizes};
 use layout::state::State;
 use layout::store::store;
-use protocol::Kinds;
+use protocol::{Event, Kinds};
 
 // All thirteen kinds of events are there.
 fn all_kinds() -> Kinds
@@ -34,6 +35,29 @@ fn one_more(budget: Budget, used: Used) -> Used
     Used {
         sent: used.sent + budget.sent,
         words: used.words + budget.words,
+    }
+}
+
+// The next event of a call and where it ends, or why the call ends before it: there is no room for what an event may send and tell, or its bytes are
+// in fault. (A closure of `map_err` would not know that the place of a fault fits.)
+fn next_event(
+    call: &[u8],
+    at: usize,
+    z: Sizes,
+    lent: Lent,
+    used: Used,
+) -> Result<(Event, usize), Refusal>
+    requires { z.programs ≤ 64 }
+    ensures { Next (sizes_of z) call.now at lent used result }
+{
+    if let Some(no) = z.event_refusal(lent, used) {
+        return Err(no);
+    }
+    match protocol::read(call, at, z.programs as u8, all_kinds()) {
+        Ok(found) => Ok(found),
+        Err(fault) => Err(Refusal::Fault {
+            place: fault.place as u32,
+        }),
     }
 }
 
@@ -55,48 +79,23 @@ fn events(
     ensures good { Good (sizes_of z) s.new (length pictures.new) }
     ensures ran { Ran (sizes_of z) (read_call (sizes_of z) call.now lent) (desk_of s.old pictures.old) sent.old words.old (desk_of s.new pictures.new) sent.new words.new result }
 {
-    let kinds = all_kinds();
-    let programs = z.programs as u8;
     let mut used = Used { sent: 0, words: 0 };
     let mut out = Written { sent: 0, words: 0 };
     let mut count = 0;
     let mut at = 0;
+    // each event says where the next begins
     'events: while at < call.len() {
-        if let Some(no) = z.event_refusal(lent, used) {
-            return Outcome {
-                events: count,
-                read: at,
-                sent: out.sent,
-                words: out.words,
-                refusal: Some(no),
-            };
-        }
-        match protocol::read(call, at, programs, kinds) {
+        match next_event(call, at, z, lent, used) {
             Ok((e, end)) => {
                 out = step(z, s, pictures, call, e, sent, words, out);
                 used = one_more(budget, used);
                 count += 1;
                 at = end;
             }
-            Err(fault) => {
-                let place = fault.place as u32;
-                return Outcome {
-                    events: count,
-                    read: at,
-                    sent: out.sent,
-                    words: out.words,
-                    refusal: Some(Refusal::Fault { place }),
-                };
-            }
+            Err(no) => return out.outcome(count, at, Some(no)),
         }
     }
-    Outcome {
-        events: count,
-        read: at,
-        sent: out.sent,
-        words: out.words,
-        refusal: None,
-    }
+    out.outcome(count, at, None)
 }
 
 // The call is refused whole.
@@ -123,11 +122,10 @@ pub fn event(
 ) -> Outcome
     ensures { Promised call.now pictures.old work.old sent.old words.old pictures.new work.new sent.new words.new result }
 {
-    let Some(found) = load(work, pictures.len()) else {
+    let Some((z, loaded)) = load(work, pictures.len()) else {
         return refused(load_refusal(work, pictures.len()));
     };
-    let z = found.0;
-    let mut s = found.1;
+    let mut s = loaded;
     let Ok(budget) = z.budget() else {
         return refused(Refusal::Short { slice: 1 });
     };

@@ -9,12 +9,22 @@ ghost use Rattle.server.specs.MailboxLaws.{OwnTogether, OwnWords, OwnAlone, OwnS
 use protocol::{Fault, Word, read_word};
 
 // Why a row of words is not taken. In each case nothing is written.
-#[derive(Clone, Copy)]
+#[derive(Clone, Copy, PartialEq, Eq)]
 pub enum Stop {
     // The bytes are no words: the first byte in fault, counted from the row's first.
     Fault { place: usize },
     // The row that was lent is too short: how many bytes it needs.
     Short { needs: usize },
+}
+
+impl From<Fault> for Stop {
+    ghost use Rattle.server.specs.declared.mailbox.Stop.TheVariants.{Fault};
+
+    ghost from_gives = { λ fault stop. stop ≡ Fault fault.place };
+
+    fn from(fault: Fault) -> Stop {
+        Stop::Fault { place: fault.place }
+    }
 }
 
 // The next word of a row, and where it ends; none at the end of the row.
@@ -25,10 +35,8 @@ pub fn next(row: &[u8], at: usize) -> Result<Option<(Word, usize)>, Stop>
     if at >= row.len() {
         return Ok(None);
     }
-    match read_word(row, at) {
-        Ok(((_, word), end)) => Ok(Some((word, end))),
-        Err(fault) => Err(Stop::Fault { place: fault.place }),
-    }
+    let ((_, word), end) = read_word(row, at)?;
+    Ok(Some((word, end)))
 }
 
 // How many bytes the words that are told to one program have, or the first byte in fault.
@@ -38,15 +46,11 @@ fn own_size(words: &[u8], program: u8) -> Result<usize, Fault>
     let mut size: usize = 0;
     let mut at: usize = 0;
     'measure: while at < words.len() {
-        match read_word(words, at) {
-            Ok(((told, _), end)) => {
-                if told == program {
-                    size += end - at;
-                }
-                at = end;
-            }
-            Err(fault) => return Err(fault),
+        let ((told, _), end) = read_word(words, at)?;
+        if told == program {
+            size += end - at;
         }
+        at = end;
     }
     Ok(size)
 }
@@ -88,20 +92,16 @@ fn copy_own(words: &[u8], program: u8, row: &mut [u8]) -> usize
 pub fn take(words: &[u8], program: u8, row: &mut [u8]) -> Result<usize, Stop>
     ensures { Taken program words.now row.old row.new result }
 {
-    match own_size(words, program) {
-        Ok(needs) => {
-            if row.len() < needs {
-                return Err(Stop::Short { needs });
-            }
-            Ok(copy_own(words, program, row))
-        }
-        Err(fault) => Err(Stop::Fault { place: fault.place }),
+    let needs = own_size(words, program)?;
+    if row.len() < needs {
+        return Err(Stop::Short { needs });
     }
+    Ok(copy_own(words, program, row))
 }
 
 // Rows of words are read as they are written, and each program's own are what it is told, whatever others are told.
 // This function does nothing: its contract is the theorems (specs/MailboxLaws.antt).
-pub fn mailbox_stands() -> u8
+pub fn mailbox_stands()
     ensures back { WordsReadBack }
     ensures only { WordsReadOnly }
     ensures first { WordsFaultFirst }
@@ -113,9 +113,7 @@ pub fn mailbox_stands() -> u8
     ensures short { OwnShort }
     ensures heard { Heard }
     ensures taken { TakenHeard }
-{
-    0
-}
+{}
 
 #[cfg(test)]
 mod tests;

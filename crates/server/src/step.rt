@@ -11,10 +11,11 @@ ghost use Rattle.desktop.specs.Does.{told_of, told_had};
 ghost use Rattle.server.specs.Told.{told_bytes, AllCarried};
 ghost use Rattle.server.specs.Step.{grants, granted_by, Stepped};
 
+use crate::outcome::Outcome;
 use damage::send::send;
 use desktop::carry::carry_out;
 use desktop::told::Told;
-use layout::sizes::Sizes;
+use layout::sizes::{Refusal, Sizes};
 use layout::state::State;
 use protocol::{Event, Word};
 
@@ -25,7 +26,22 @@ pub struct Written {
     pub words: usize,
 }
 
-// Whether a word is another than no. Whatever it is, it fits its bytes.
+impl Written {
+    // What a call came to with so much written.
+    pub fn outcome(self, events: usize, read: usize, refusal: Option<Refusal>) -> Outcome
+        ensures { result ≡ record { events = events; read = read; sent = self.sent; words = self.words; refusal = refusal } }
+    {
+        Outcome {
+            events,
+            read,
+            sent: self.sent,
+            words: self.words,
+            refusal,
+        }
+    }
+}
+
+// Whether a word is another than no. Whatever it is, it fits its bytes, which is seen kind by kind: `matches!` would prove the value alone.
 fn is_grant(word: Word) -> bool
     ensures value { result ≡ grants word }
     ensures fits { (bs : List ℕ) → Bytes bs → CarriedWord (word_meaning bs word) }

@@ -5,6 +5,8 @@ use Rattle.model.specs.Desk as desk
 use Rattle.model.specs.Desk.{nothing}
 use Rattle.stack.specs.declared.state.Window.{Window}
 use Rattle.stack.specs.declared.state.Stack.{Stack}
+use Rattle.few.specs.Held.{held}
+use Rattle.pixels.specs.declared.Picture.{Picture}
 
 -- the dots of a window's picture, and 0 outside
 abbrev pub dots_of : List ℕ → Window → ℕ → ℕ → ℕ
@@ -15,6 +17,10 @@ view p None = nothing
 view p (Some w) =
     record { there = true; owner = w.owner; shown = w.shown; x = w.x; y = w.y; wide = w.wide; high = w.high; dots = dots_of p w }
 
+-- where it lies in the lent pictures
+abbrev pub picture_of : Window → Picture
+picture_of w = record { at = w.at; wide = w.wide; high = w.high }
+
 -- the windows that can be made
 abbrev pub slots_of : Stack → List (Option Window)
 slots_of s = take s.limit s.windows
@@ -23,7 +29,7 @@ abbrev pub windows_of : Stack → List ℕ → List desk.Window
 windows_of s p = map (view p) (slots_of s)
 
 abbrev pub order_of : Stack → List ℕ
-order_of s = take s.count s.order
+order_of s = held s.order
 
 -- a window's number + 1, or 0
 abbrev pub numbered : Option ℕ → ℕ

@@ -28,8 +28,8 @@ impl Stack {
     pub fn front_window(&self, x: i16, y: i16) -> Option<(u8, Window)>
         ensures { Found self.now x y result }
     {
-        for i in (0..self.count).rev() {
-            let n = self.order[i];
+        for i in (0..self.order.len).rev() {
+            let n = self.order.items[i];
             let Some(w) = self.window(n) else {
                 continue;
             };

@@ -14,14 +14,14 @@ impl Stack {
         ensures limit { self.new.limit ≡ self.old.limit }
     {
         let mut put = 0;
-        for i in 0..self.count {
-            let m = self.order[i];
+        for i in 0..self.order.len {
+            let m = self.order.items[i];
             if m != n {
-                self.order[put] = m;
+                self.order.items[put] = m;
                 put += 1;
             }
         }
-        self.count = put;
+        self.order.len = put;
     }
 
     // Puts n in front of all, where the order has room for one more; whether it has.
@@ -31,12 +31,7 @@ impl Stack {
         ensures slots { slots_of self.new ≡ slots_of self.old }
         ensures limit { self.new.limit ≡ self.old.limit }
     {
-        if self.count == 255 {
-            return false;
-        }
-        self.order[self.count] = n;
-        self.count += 1;
-        true
+        self.order.push(n)
     }
 
     // Takes n out of the order and puts it in front of all, where there is room; whether there is. If not, nothing changes.

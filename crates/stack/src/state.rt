@@ -1,6 +1,8 @@
 // The state alone; what it means is in specs/View.antt.
 ghost use Rattle.std.specs.Prelude.{◌≡◌, ◌≤◌, length};
 
+use few::Few;
+
 // A window that is there: the program that owns it, whether it is shown, where its upper left dot lies on the desk, its size,
 // and where its picture begins in the lent pictures. The picture's rows follow each other without a gap.
 #[derive(Clone, Copy)]
@@ -14,14 +16,12 @@ pub struct Window {
     pub at: usize,
 }
 
-// The windows by number, of which the first `limit` can be made, and the order: its first `count` elements, from the back to the front.
+// The windows by number, of which the first `limit` can be made, and the order, from the back to the front.
 #[derive(Clone, Copy)]
 pub struct Stack {
     pub limit: usize,
     pub windows: [Option<Window>; 255],
-    pub order: [u8; 255],
-    pub count: usize,
-    ghost few: { count ≤ 255 },
+    pub order: Few<u8, 255>,
     ghost low: { limit ≤ 255 },
     ghost all: { length windows ≡ 255 },
 }

@@ -2,10 +2,12 @@
 ghost use Rattle.std.specs.Prelude.{◌≡◌, ℕ, ◌*◌, ◌≤◌, List, [], replicate, Some, None, slice_index_or, slice_set};
 ghost use Rattle.model.specs.Desk.{Desk, nothing, free, area};
 ghost use Rattle.model.specs.Desk.{window as window_of};
-ghost use Rattle.stack.specs.View.{view, slots_of, windows_of, order_of, dots_used};
+ghost use Rattle.stack.specs.View.{view, slots_of, windows_of, order_of, dots_used, picture_of};
 ghost use Rattle.stack.specs.Found.{Owned};
 
 use crate::state::{Stack, Window};
+use few::Few;
+use pixels::Picture;
 
 impl Window {
     // How many dots its picture has.
@@ -14,6 +16,17 @@ impl Window {
         ensures small { result ≤ 65535 * 65535 }
     {
         self.wide as u64 * self.high as u64
+    }
+
+    // Its picture in the lent pictures.
+    pub fn picture(&self) -> Picture
+        ensures { result ≡ picture_of self.now }
+    {
+        Picture {
+            at: self.at,
+            wide: self.wide as usize,
+            high: self.high as usize,
+        }
     }
 }
 
@@ -39,8 +52,7 @@ impl Stack {
         Stack {
             limit: limit as usize,
             windows: [None; 255],
-            order: [0; 255],
-            count: 0,
+            order: Few::new(0),
         }
     }
 

@@ -1,4 +1,4 @@
-use Rattle.std.proofs.Common.{◌^◌, ◌≤◌, length, sym, ◌∙◌, inl, inr, arith}
+use Rattle.std.proofs.Common.{◌≡◌, ◌^◌, ◌≤◌, length, get_or, rules, sym, ◌∙◌, inl, inr, arith}
 use Rattle.std.proofs.lemmas.List.{get_or_past}
 use Rattle.std.proofs.lemmas.Bool.{cases_lt}
 use Rattle.pixels.specs.Pictures.{place}
@@ -20,5 +20,6 @@ returns-in_default c =
 
 pub returns : goal.returns
 returns c =
-    rw c.in-Some.ensures.1 at c.read.ensures
-    ∙ sym (dot-inside c.args.pictures.now c.args.picture.at c.args.picture.wide c.args.picture.high c.args.i c.args.j (omega arith) (omega arith))
+    let p = c.args.picture in
+    let e : c.unwrap_or.result ≡ get_or c.args.pictures.now (place p.at p.wide c.args.i c.args.j) 0 = search rules in
+    e ∙ sym (dot-inside c.args.pictures.now p.at p.wide p.high c.args.i c.args.j (omega arith) (omega arith))

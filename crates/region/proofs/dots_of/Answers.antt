@@ -1,25 +1,19 @@
-use Rattle.std.proofs.Common.{arith}
+use Rattle.std.proofs.Common.{sym, ◌∙◌, arith, rules}
+use Rattle.std.proofs.lemmas.Iterator.{YieldsList-from_map}
+use Rattle.std.proofs.lemmas.Iterator.Consumers.{sum_by_from_yields_List, fits_by_from_yields_list, YieldsList-at}
 use Rattle.region.specs.Words.{rects}
-use Rattle.region.proofs.Wording.{length-rects}
-use Rattle.region.proofs.Measuring.{area-step, area-less, area-none}
+use Rattle.region.proofs.Measuring.{area-less}
+use Rattle.region.proofs.Walks.{boxes-yield, area-sum, dots_one}
 use Rattle.region.proofs.dots_of.Goals as goal
 
-pub overflow_add-n : goal.overflow_add-n
-overflow_add-n c =
-    omega (
-      arith,
-      c.each.invariant,
-      area-less (rects c.args.a.now) c.requires,
-      area-step (rects c.args.a.now) c.each.i c.rect_at-r.result (omega (arith, length-rects c.args.a.now)) c.rect_at-r.ensures c.wide.result c.high.result c.wide.ensures c.high.ensures,
-    )
-
-pub each-preserved : goal.each-preserved
-each-preserved c =
-    omega (
-      arith,
-      c.each.invariant,
-      area-step (rects c.args.a.now) c.each.i c.rect_at-r.result (omega (arith, length-rects c.args.a.now)) c.rect_at-r.ensures c.wide.result c.high.result c.wide.ensures c.high.ensures,
-    )
+pub sum-requires-clause-fits : goal.sum-requires-clause-fits
+sum-requires-clause-fits c =
+    fits_by_from_yields_list dots_one (rects c.args.a.now) c.map.result _
+    (YieldsList-from_map _ dots_one (YieldsList-at c.map.ensures.source (boxes-yield c.boxes_of.result (rects c.args.a.now) c.boxes_of.ensures.value)) c.map.ensures.closure (λ x r q k. search rules))
+    (omega (arith, area-sum (rects c.args.a.now), area-less (rects c.args.a.now) c.requires))
 
 pub returns : goal.returns
-returns c = omega (arith, c.each.invariant, area-none (rects c.args.a.now) c.each.i (omega (arith, length-rects c.args.a.now)))
+returns c =
+    sum_by_from_yields_List dots_one (rects c.args.a.now) c.map.result _ c.sum.ensures.ran
+    (YieldsList-from_map _ dots_one (YieldsList-at c.map.ensures.source (boxes-yield c.boxes_of.result (rects c.args.a.now) c.boxes_of.ensures.value)) c.map.ensures.closure (λ x r q k. search rules))
+    ∙ sym (area-sum (rects c.args.a.now))

@@ -6,7 +6,8 @@ use Rattle.region.specs.Reader.{leading}
 use Rattle.region.specs.Checks.{follows_on}
 use Rattle.region.specs.Words.{rects}
 use Rattle.region.proofs.Wording.{length-rects, rects-part}
-use Rattle.region.proofs.Testing.{tested-start, tested-step, tested-stop, tested-end, band-on, leading-short}
+use Rattle.region.proofs.Testing.{tested-start, tested-step, tested-stop, tested-end, band-on}
+use Rattle.region.proofs.Walks.{leading-short}
 use Rattle.region.proofs.is_region.Goals as goal
 
 pub bands-init : goal.bands-init

@@ -1,4 +1,4 @@
-use Rattle.std.proofs.Common.{◌≡◌, ℕ, ◌+◌, ◌-◌, ◌*◌, ◌/◌, ◌<◌, ◌≤◌, min, List, [], ◌++◌, length, take, drop, sym, refl, ap, ◌∙◌, subst, ap₂, arith, length-drop, length-take}
+use Rattle.std.proofs.Common.{◌≡◌, ℕ, ◌+◌, ◌-◌, ◌*◌, ◌/◌, ◌<◌, ◌≤◌, ◌==◌, cond, min, List, [], ◌++◌, length, take, drop, sym, refl, ap, ◌∙◌, subst, ap₂, arith, length-drop, length-take}
 use mathlib.Core.Path.{subst₃}
 use borrow.Rule.Slice.PartMut.{put_mid, post_of, same_len_mid}
 use Rattle.geometry.specs.declared.Rect.{Rect}
@@ -8,7 +8,7 @@ use Rattle.region.specs.Boxes.{act, none, edges, across, Rows}
 use Rattle.region.specs.Reader.{Slab, Rest, stretched}
 use Rattle.region.specs.Lines.{Roomy}
 use Rattle.region.specs.Words.{rects}
-use Rattle.region.proofs.Wording.{length-rects, rects-part, length_part, rects-mid, rects-tail, makes}
+use Rattle.region.proofs.Wording.{length-rects, rects-part, rects-mid, rects-tail, makes}
 use Rattle.region.proofs.Building.{Built, built-start, built-done, Made, added, merged, rest-on, to_low}
 use Rattle.region.proofs.Pairs.{act-none}
 use Rattle.region.proofs.Rooming.{room}
@@ -20,13 +20,13 @@ bands-init c = (built-start (act c.args.op) (rects c.args.a.now) (rects c.args.b
 
 pub returns-then-to : goal.returns-then-to
 returns-then-to c =
-    let ea : c.band-pe.result.1 ≡ none = omega arith in
-    let eb : c.band-qe.result.1 ≡ none = omega arith in
+    let ea : c.band_at-u.result.below ≡ none = omega arith in
+    let eb : c.band_at-v.result.below ≡ none = omega arith in
     makes c.args.op (rects c.args.a.now) (rects c.args.b.now) c.bands.out c.bands.n
-    (built-done c.args.op (rects c.args.a.now) (rects c.args.b.now) (rects c.bands.out) c.bands.p c.bands.q c.bands.y c.bands.m c.bands.n c.band-pe.result.0 c.band-qe.result.0 (act-none c.args.op)
+    (built-done c.args.op (rects c.args.a.now) (rects c.args.b.now) (rects c.bands.out) c.bands.p c.bands.q c.bands.y c.bands.m c.bands.n c.band_at-u.result.end c.band_at-v.result.end (act-none c.args.op)
     c.bands.invariant.0
-    (subst (λ n. Slab (rects c.args.a.now) c.bands.p c.bands.y c.band-pe.result.0 n) ea c.band-pe.ensures.slab)
-    (subst (λ n. Slab (rects c.args.b.now) c.bands.q c.bands.y c.band-qe.result.0 n) eb c.band-qe.ensures.slab))
+    (subst (λ n. Slab (rects c.args.a.now) c.bands.p c.bands.y c.band_at-u.result.end n) ea c.band_at-u.ensures.slab)
+    (subst (λ n. Slab (rects c.args.b.now) c.bands.q c.bands.y c.band_at-v.result.end n) eb c.band_at-v.ensures.slab))
 
 pub returns-then-out-n : goal.returns-then-out-n
 returns-then-out-n c = λ r.
@@ -36,7 +36,7 @@ returns-then-out-n c = λ r.
       arith,
       c.if-out-n.true,
       length-rects c.bands.out,
-      room (act c.args.op) _ _ _ _ _ _ _ _ _ _ _ _ (act-none c.args.op) c.bands.invariant.0 c.band-pe.ensures.slab c.band-qe.ensures.slab r',
+      room (act c.args.op) _ _ _ _ _ _ _ _ _ _ _ _ (act-none c.args.op) c.bands.invariant.0 c.band_at-u.ensures.slab c.band_at-v.ensures.slab r',
     )
 
 pub combine_row-k-requires : goal.combine_row-k-requires
@@ -44,56 +44,19 @@ combine_row-k-requires c =
     let out : List ℕ = c.bands.out in
     let n : ℕ = c.bands.n in
     record {
-      left = subst (λ (z : List Rect). Between 0 (edges z) 4097) (sym (rects-part c.bands.p c.band-pe.result.0 c.args.a.now)) c.band-pe.ensures.slab.row;
-      right = subst (λ (z : List Rect). Between 0 (edges z) 4097) (sym (rects-part c.bands.q c.band-qe.result.0 c.args.b.now)) c.band-qe.ensures.slab.row;
+      left = subst (λ (z : List Rect). Between 0 (edges z) 4097) (sym (c.words.ensures.boxes ∙ ap (λ (z : ℕ). take (c.band_at-u.result.end - z) (drop z (rects c.args.a.now))) c.band_at-u.ensures.from)) c.band_at-u.ensures.slab.row;
+      right = subst (λ (z : List Rect). Between 0 (edges z) 4097) (sym (c.words-in-bands.ensures.boxes ∙ ap (λ (z : ℕ). take (c.band_at-v.result.end - z) (drop z (rects c.args.b.now))) c.band_at-v.ensures.from)) c.band_at-v.ensures.slab.row;
       room =
           omega (
             arith,
-            length_part c.bands.p c.band-pe.result.0 c.args.a.now c.band-pe.ensures.within.0 c.band-pe.ensures.within.1,
-            length_part c.bands.q c.band-qe.result.0 c.args.b.now c.band-qe.ensures.within.0 c.band-qe.ensures.within.1,
+            c.words.ensures.long,
+            c.words-in-bands.ensures.long,
             c.if-out-n.false,
             length-rects (take (length out - 2 * n) (drop (2 * n) out)),
             length-take (length out - 2 * n) (drop (2 * n) out),
             length-drop (2 * n) out,
           );
     }
-
--- the row that was written has room
-pub few-n : (a b out : List ℕ) (p pe q qe n k : ℕ) → p ≤ pe → 2 * pe ≤ length a → q ≤ qe → 2 * qe ≤ length b → (pe - p) + (qe - q) ≤ length out / 2 - n → 2 * n ≤ length out →
-    k ≤ length (rects (take (2 * pe - 2 * p) (drop (2 * p) a))) + length (rects (take (2 * qe - 2 * q) (drop (2 * q) b))) → 2 * (n + k) ≤ length out
-few-n a b out p pe q qe n k h₁ h₂ h₃ h₄ h₅ h₆ h₇ = omega (arith, length_part p pe a h₁ h₂, length_part q qe b h₃ h₄)
-
-pub overflow_add-n : goal.overflow_add-n
-overflow_add-n c =
-    omega (
-      arith,
-      few-n c.args.a.now c.args.b.now c.bands.out c.bands.p c.band-pe.result.0 c.bands.q c.band-qe.result.0 c.bands.n c.combine_row-k.result c.band-pe.ensures.within.0 c.band-pe.ensures.within.1
-          c.band-qe.ensures.within.0 c.band-qe.ensures.within.1 c.if-out-n.false c.bands.invariant.3 c.combine_row-k.ensures.few,
-    )
-
-pub overflow_mul-n-in-bands-3 : goal.overflow_mul-n-in-bands-3
-overflow_mul-n-in-bands-3 c =
-    omega (
-      arith,
-      few-n c.args.a.now c.args.b.now c.bands.out c.bands.p c.band-pe.result.0 c.bands.q c.band-qe.result.0 c.bands.n c.combine_row-k.result c.band-pe.ensures.within.0 c.band-pe.ensures.within.1
-          c.band-qe.ensures.within.0 c.band-qe.ensures.within.1 c.if-out-n.false c.bands.invariant.3 c.combine_row-k.ensures.few,
-    )
-
-pub slice_bounds-same_row-end-in-bands : goal.slice_bounds-same_row-end-in-bands
-slice_bounds-same_row-end-in-bands c =
-    omega (
-      arith,
-      few-n c.args.a.now c.args.b.now c.bands.out c.bands.p c.band-pe.result.0 c.bands.q c.band-qe.result.0 c.bands.n c.combine_row-k.result c.band-pe.ensures.within.0 c.band-pe.ensures.within.1
-          c.band-qe.ensures.within.0 c.band-qe.ensures.within.1 c.if-out-n.false c.bands.invariant.3 c.combine_row-k.ensures.few,
-    )
-
-pub overflow_add-n-else-same_row : goal.overflow_add-n-else-same_row
-overflow_add-n-else-same_row c =
-    omega (
-      arith,
-      few-n c.args.a.now c.args.b.now c.bands.out c.bands.p c.band-pe.result.0 c.bands.q c.band-qe.result.0 c.bands.n c.combine_row-k.result c.band-pe.ensures.within.0 c.band-pe.ensures.within.1
-          c.band-qe.ensures.within.0 c.band-qe.ensures.within.1 c.if-out-n.false c.bands.invariant.3 c.combine_row-k.ensures.few,
-    )
 
 pub bands-preserved : goal.bands-preserved
 bands-preserved c =
@@ -109,13 +72,13 @@ bands-preserved c =
     let out₁ : List Rect = take n (rects out) ++ (rects ys ++ []) in
     let e₁ : rects words₁ ≡ out₁ = rects-tail n out ys c.bands.invariant.3 in
     let R : List Rect = take k (rects ys) in
-    let eA : rects (take (2 * c.band-pe.result.0 - 2 * c.bands.p) (drop (2 * c.bands.p) c.args.a.now)) ≡ take (c.band-pe.result.0 - c.bands.p) (drop c.bands.p a) =
-    rects-part c.bands.p c.band-pe.result.0 c.args.a.now in
-    let eB : rects (take (2 * c.band-qe.result.0 - 2 * c.bands.q) (drop (2 * c.bands.q) c.args.b.now)) ≡ take (c.band-qe.result.0 - c.bands.q) (drop c.bands.q b) =
-    rects-part c.bands.q c.band-qe.result.0 c.args.b.now in
+    let eA : rects c.words.result.now ≡ take (c.band_at-u.result.end - c.bands.p) (drop c.bands.p a) =
+    c.words.ensures.boxes ∙ ap (λ (z : ℕ). take (c.band_at-u.result.end - z) (drop z a)) c.band_at-u.ensures.from in
+    let eB : rects c.words-in-bands.result.now ≡ take (c.band_at-v.result.end - c.bands.q) (drop c.bands.q b) =
+    c.words-in-bands.ensures.boxes ∙ ap (λ (z : ℕ). take (c.band_at-v.result.end - z) (drop z b)) c.band_at-v.ensures.from in
     let rows : Rows c.bands.y to R = c.combine_row-k.ensures.rows in
     let rises : Between 0 (edges R) 4097 = c.combine_row-k.ensures.canonical in
-    let dots : (i : ℕ) → across R i ≡ act c.args.op (across (take (c.band-pe.result.0 - c.bands.p) (drop c.bands.p a)) i) (across (take (c.band-qe.result.0 - c.bands.q) (drop c.bands.q b)) i) =
+    let dots : (i : ℕ) → across R i ≡ act c.args.op (across (take (c.band_at-u.result.end - c.bands.p) (drop c.bands.p a)) i) (across (take (c.band_at-v.result.end - c.bands.q) (drop c.bands.q b)) i) =
     λ i. c.combine_row-k.ensures.dots i ∙ ap₂ (λ (u v : List Rect). act c.args.op (across u i) (across v i)) eA eB in
     let same : c.same_row.result ≡ same_edges (edges (take (n - m) (drop m out₁))) (edges (take (n + k - n) (drop n out₁))) =
     c.same_row.ensures
@@ -124,18 +87,17 @@ bands-preserved c =
     let ylen : length ys ≡ length (take (length out - 2 * n) (drop (2 * n) out)) = c.combine_row-k.auto.out in
     let ysize : length ys ≡ length out - 2 * n = omega (arith, ylen, length-take (length out - 2 * n) (drop (2 * n) out), length-drop (2 * n) out) in
     let fits : 2 * (n + k) ≤ length out =
-    few-n c.args.a.now c.args.b.now c.bands.out c.bands.p c.band-pe.result.0 c.bands.q c.band-qe.result.0 c.bands.n c.combine_row-k.result c.band-pe.ensures.within.0 c.band-pe.ensures.within.1
-    c.band-qe.ensures.within.0 c.band-qe.ensures.within.1 c.if-out-n.false c.bands.invariant.3 c.combine_row-k.ensures.few in
+    omega arith in
     let long : k ≤ length (rects ys) = omega (arith, ysize, fits, length-rects ys) in
     let whole : length words₁ ≡ length out = same_len_mid (2 * n) (length out - 2 * n) out ys ylen in
-    let eto : to ≡ min c.band-pe.result.1 c.band-qe.result.1 = c.min-to.ensures in
-    let sa : Slab a c.bands.p c.bands.y c.band-pe.result.0 c.band-pe.result.1 = c.band-pe.ensures.slab in
-    let sb : Slab b c.bands.q c.bands.y c.band-qe.result.0 c.band-qe.result.1 = c.band-qe.ensures.slab in
+    let eto : to ≡ min c.band_at-u.result.below c.band_at-v.result.below = c.min-to.ensures in
+    let sa : Slab a c.bands.p c.bands.y c.band_at-u.result.end c.band_at-u.result.below = c.band_at-u.ensures.slab in
+    let sb : Slab b c.bands.q c.bands.y c.band_at-v.result.end c.band_at-v.result.below = c.band_at-v.ensures.slab in
     let lt : to < none = omega (arith, c.min-to.type_inv, c.if-to.false) in
     let low : to ≤ 4096 = to_low _ _ _ eto sa.low sb.low lt in
     let on : c.bands.y < to = omega (arith, eto, sa.later, sb.later) in
-    let ra : Rest a c.onward-p.result to = rest-on _ _ _ _ _ _ _ sa on (omega (arith, eto)) lt low c.onward-p.ensures in
-    let rb : Rest b c.onward-q.result to = rest-on _ _ _ _ _ _ _ sb on (omega (arith, eto)) lt low c.onward-q.ensures in
+    let ra : Rest a c.onward-p.result to = rest-on _ _ _ _ _ _ _ sa on (omega (arith, eto)) lt low (c.onward-p.ensures ∙ ap (λ (z : ℕ). cond (c.band_at-u.result.below == to) c.band_at-u.result.end z) c.band_at-u.ensures.from) in
+    let rb : Rest b c.onward-q.result to = rest-on _ _ _ _ _ _ _ sb on (omega (arith, eto)) lt low (c.onward-q.ensures ∙ ap (λ (z : ℕ). cond (c.band_at-v.result.below == to) c.band_at-v.result.end z) c.band_at-v.ensures.from) in
     let d : Made (act c.args.op) a b R c.bands.y to =
     record { rows = rows; rises = rises; dots = λ i j l h. dots i ∙ sym (ap₂ (act c.args.op) (sa.dots i j l (omega (arith, eto, h))) (sb.dots i j l (omega (arith, eto, h)))) } in
     let built : P (rects c.if-same_row.out) c.if-same_row.m c.if-same_row.n =

@@ -2,7 +2,6 @@ use Rattle.std.proofs.Common.{◌≡◌, ◌+◌, ◌-◌, ◌≤◌, true, leng
 use lib.Signed.{le_z, mag}
 use Rattle.std.proofs.lemmas.Int.{to_z-of_z}
 use Rattle.stack.specs.declared.state.Window.{Window}
-use Rattle.pixels.specs.declared.Picture.{Picture}
 use Rattle.pixels.specs.declared.Span.{Span}
 use Rattle.pixels.proofs.Laws.{run-fits-yes}
 use Rattle.damage.specs.Encode.{Sent}
@@ -24,12 +23,12 @@ returns-in-Some c =
     let fy : SFits w16 c.in-Some.w.y = search rules in
     let px : le_z w.x (pos r.left) ≡ true → c.past.result ≡ mag (pos r.left -ℤ w.x) = simp to_z-of_z at c.past.ensures in
     let py : le_z w.y (pos c.args.j) ≡ true → c.past-in-Some.result ≡ mag (pos c.args.j -ℤ w.y) = simp to_z-of_z at c.past-in-Some.ensures in
-    let pic : Picture = record { at = w.at; wide = w.wide; high = w.high } in
+    let pic = c.picture.result in
     let span : Span = record { x = c.past.result; y = c.past-in-Some.result; wide = c.wide-wide.result } in
     let sx = px over.left in
     let sy = py (line-top w r c.args.j (length p) over c.requires.top) in
-    let yes = c.copy_out.ensures.answer ∙ line-fits p w r c.args.j at pic span old new (length p) over c.args.self.now.inside c.requires.top c.requires.below refl sx sy c.wide-wide.ensures c.requires.room in
-    let sent = line-copied p w r c.args.j at pic span old new (length p) over c.args.self.now.inside c.requires.top c.requires.below refl sx sy c.wide-wide.ensures c.requires.room (c.copy_out.ensures.done yes) in
+    let yes = c.copy_out.ensures.answer ∙ line-fits p w r c.args.j at pic span old new (length p) over c.args.self.now.inside c.requires.top c.requires.below c.picture.ensures sx sy c.wide-wide.ensures c.requires.room in
+    let sent = line-copied p w r c.args.j at pic span old new (length p) over c.args.self.now.inside c.requires.top c.requires.below c.picture.ensures sx sy c.wide-wide.ensures c.requires.room (c.copy_out.ensures.done yes) in
     subst (λ (o : Option Window). Sent at (at + c.wide-wide.result) (dot_row (seen p o) r.left n c.args.j) old new) (sym c.in-Some.is)
     (subst (λ k. Sent at (at + k) (dot_row (seen p (Some w)) r.left n c.args.j) old new) (sym c.wide-wide.ensures) sent)
 

@@ -10,7 +10,7 @@ unfolding in_window
 loop-i-preserved-in_default c d p h =
     let fx = c.ranges.x in
     let fy = c.ranges.y in
-    let s = front-step d c.args.self.now.order c.loop-i.i c.args.x c.args.y nothing false (search rules) (search rules) (c.in_default.ensures.value d p h) refl in
+    let s = front-step d c.args.self.now.order.items c.loop-i.i c.args.x c.args.y nothing false (search rules) (search rules) (c.in_default.ensures.value d p h) refl in
     let v = simp to_z-of_z at (c.loop-i.invariant d p h) in
     simp to_z-of_z (sym s ∙ v)
 
@@ -24,7 +24,7 @@ returns-then-covers c =
       low = slot-low c.args.self.now _ c.in-Some.w (sym f.slot);
       front = λ d p h.
           let t = simp to_z-of_z at (c.if-covers.ensures p) in
-          let s = front-step d c.args.self.now.order c.loop-i.i c.args.x c.args.y _ true (search rules) (search rules) (f.value d p h) t in
+          let s = front-step d c.args.self.now.order.items c.loop-i.i c.args.x c.args.y _ true (search rules) (search rules) (f.value d p h) t in
           let v = simp to_z-of_z at (c.loop-i.invariant d p h) in
           sym v ∙ s;
       value = λ d p h. sym (f.value d p h);
@@ -36,7 +36,7 @@ loop-i-preserved c d p h =
     let fx = c.ranges.x in
     let fy = c.ranges.y in
     let t = simp to_z-of_z at (c.if-covers.ensures p) in
-    let s = front-step d c.args.self.now.order c.loop-i.i c.args.x c.args.y _ false (search rules) (search rules) (c.in-Some.ensures.value d p h) t in
+    let s = front-step d c.args.self.now.order.items c.loop-i.i c.args.x c.args.y _ false (search rules) (search rules) (c.in-Some.ensures.value d p h) t in
     let v = simp to_z-of_z at (c.loop-i.invariant d p h) in
     simp to_z-of_z (sym s ∙ v)
 

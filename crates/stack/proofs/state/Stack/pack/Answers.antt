@@ -17,7 +17,6 @@ loop-n-preserved c =
       omega (arith, b.behind.0, b.behind.1, v.2),
       v.3,
       v.4,
-      v.5,
     )
 
 pub returns : goal.returns
@@ -27,6 +26,6 @@ returns c =
     let k : c.loop-n.n ≡ c.args.self.now.limit = omega (arith, v.3) in
     record {
       slots = ap (λ m. take m c.loop-n.self.windows) v.3 ∙ ap (take c.args.self.now.limit) (v.0 ∙ ap (λ m. packing m 0 ws) k) ∙ packing-all c.args.self.now.limit 0 ws;
-      order = rw (v.4, v.5);
+      order = rw v.4;
       limit = v.3;
     }
