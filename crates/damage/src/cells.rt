@@ -33,7 +33,7 @@ impl Pane<'_> {
         requires room { at + (self.now.cell.right - self.now.cell.left) ≤ length sent.old }
         ensures { let r = self.now.cell in Sent at result (dot_row (seen self.now.pictures.now self.now.front) r.left (r.right - r.left) j) sent.old sent.new }
     {
-        let wide = self.cell.wide() as usize;
+        let wide = usize::from(self.cell.wide());
         match self.front {
             Some(w) => {
                 let span = Span {
