@@ -103,7 +103,7 @@ impl Size {
 }
 
 // Puts the boxes in `sent` onto the screen: how many boxes and how many dots, or None where the words are no row of boxes on that screen, or the
-// slice is too short for it, and then nothing changes.
+// slice is too short for it, and then nothing changes: so the boxes are counted before the first is put.
 pub fn apply(screen: &mut [u32], wide: u16, high: u16, sent: &[u32]) -> Option<Applied>
     ensures { elim result [ None ↦ Refused wide high sent.now screen.old screen.new | Some a ↦ Put wide high sent.now screen.old screen.new a.boxes a.dots ] }
 {

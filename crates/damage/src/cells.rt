@@ -1,4 +1,5 @@
-// The cells of the grid that are damaged, each written with its dots. The words go into a lent slice of which the part up to `at` is written.
+// The cells of the grid that are damaged, each written with its dots.
+// Where the words go stays a lent slice and a place in it, as `send` is given them and pixels takes them.
 ghost use Rattle.std.specs.Prelude.{◌≡◌, ℕ, ◌+◌, ◌-◌, ◌*◌, ◌<◌, ◌≤◌, [], ◌∷◌, length};
 ghost use Rattle.model.specs.System.{front_at};
 ghost use Rattle.model.specs.Grid.{sides};

@@ -1,6 +1,5 @@
-use Rattle.std.proofs.Common.{◌≡◌, ◌+◌, ◌-◌, ◌*◌, ◌≤◌, length, get_or, subst, arith, rules}
+use Rattle.std.proofs.Common.{◌+◌, ◌-◌, ◌*◌, ◌≤◌, length, get_or, arith, rules}
 use Rattle.std.proofs.lemmas.List.{places}
-use Rattle.pixels.specs.Runs.{Changed}
 use Rattle.pixels.proofs.Runs.{changed-part}
 use Rattle.damage.proofs.Drawing.{row_room}
 use Rattle.damage.proofs.apply.Boxed.put_row.Goals as goal

@@ -1,4 +1,4 @@
-use Rattle.std.proofs.Common.{◌≡◌, ◌+◌, ◌-◌, ◌≤◌, true, length, pos, ◌-ℤ◌, Some, None, Option, sym, refl, ◌∙◌, subst, arith, w16, SFits, rules}
+use Rattle.std.proofs.Common.{◌≡◌, ◌+◌, ◌-◌, ◌≤◌, true, length, pos, ◌-ℤ◌, Some, None, Option, sym, ◌∙◌, subst, arith, w16, SFits, rules}
 use lib.Signed.{le_z, mag}
 use Rattle.std.proofs.lemmas.Int.{to_z-of_z}
 use Rattle.stack.specs.declared.state.Window.{Window}
