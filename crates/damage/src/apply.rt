@@ -24,14 +24,22 @@ struct Boxed<'a> {
 }
 
 impl Boxed<'_> {
+    // Where row r begins on the screen.
+    fn row_at(&self, r: usize) -> usize
+        requires { r < self.now.head.high }
+        ensures { result ≡ (self.now.head.y + r) * self.now.screen.wide + self.now.head.x }
+    {
+        (usize::from(self.head.y) + r) * usize::from(self.screen.wide) + usize::from(self.head.x)
+    }
+
     // Row r is put onto the screen.
     fn put_row(&self, screen: &mut [u32], r: usize)
         requires room { self.now.screen.wide * self.now.screen.high ≤ length screen.old }
         requires row { r < self.now.head.high }
         ensures { let h = self.now.head in let to = (h.y + r) * self.now.screen.wide + h.x in Changed to h.wide (λ k. slice_index self.now.dots.now (r * h.wide + (k - to))) screen.old screen.new }
     {
-        let count = self.head.wide as usize;
-        let to = (self.head.y as usize + r) * self.screen.wide as usize + self.head.x as usize;
+        let to = self.row_at(r);
+        let count = usize::from(self.head.wide);
         let from = r * count;
         screen[to..to + count].copy_from_slice(&self.dots[from..from + count]);
     }
@@ -41,7 +49,7 @@ impl Boxed<'_> {
         requires room { self.now.screen.wide * self.now.screen.high ≤ length screen.old }
         ensures { Shown self.now.screen.wide self.now.screen.high (box_of self.now.head self.now.dots.now ∷ []) screen.old screen.new }
     {
-        for r in 0..self.head.high as usize {
+        for r in 0..usize::from(self.head.high) {
             self.put_row(screen, r);
         }
     }
@@ -95,12 +103,12 @@ impl Size {
 }
 
 // Puts the boxes in `sent` onto the screen: how many boxes and how many dots, or None where the words are no row of boxes on that screen, or the
-// slice is too short for it, and then nothing changes.
+// slice is too short for it, and then nothing changes: so the boxes are counted before the first is put.
 pub fn apply(screen: &mut [u32], wide: u16, high: u16, sent: &[u32]) -> Option<Applied>
     ensures { elim result [ None ↦ Refused wide high sent.now screen.old screen.new | Some a ↦ Put wide high sent.now screen.old screen.new a.boxes a.dots ] }
 {
     let size = Size { wide, high };
-    if screen.len() < wide as usize * high as usize {
+    if screen.len() < size.dots() {
         return None;
     }
     let applied = size.count(sent)?;

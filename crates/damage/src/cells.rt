@@ -1,6 +1,6 @@
-// The cells of the grid that are damaged, each written with its dots. The words go into a lent slice of which the part up to `at` is written.
-ghost use Rattle.std.specs.Prelude.{◌≡◌, ℕ, ◌+◌, ◌-◌, ◌*◌, ◌<◌, ◌≤◌, true, [], ◌∷◌, length, pos, ◌-ℤ◌, int_le};
-ghost use Rattle.std.specs.Int.Signed.{mag};
+// The cells of the grid that are damaged, each written with its dots.
+// Where the words go stays a lent slice and a place in it, as `send` is given them and pixels takes them.
+ghost use Rattle.std.specs.Prelude.{◌≡◌, ℕ, ◌+◌, ◌-◌, ◌*◌, ◌<◌, ◌≤◌, [], ◌∷◌, length};
 ghost use Rattle.model.specs.System.{front_at};
 ghost use Rattle.model.specs.Grid.{sides};
 ghost use Rattle.model.specs.Grid.{cell as cell_at};
@@ -34,7 +34,7 @@ impl Pane<'_> {
         requires room { at + (self.now.cell.right - self.now.cell.left) ≤ length sent.old }
         ensures { let r = self.now.cell in Sent at result (dot_row (seen self.now.pictures.now self.now.front) r.left (r.right - r.left) j) sent.old sent.new }
     {
-        let wide = self.cell.wide() as usize;
+        let wide = usize::from(self.cell.wide());
         match self.front {
             Some(w) => {
                 let span = Span {

@@ -20,6 +20,15 @@ pub(crate) struct Head {
     pub(crate) high: u16,
 }
 
+impl Size {
+    // How many dots the screen has.
+    pub(crate) fn dots(self) -> usize
+        ensures { result ≡ self.wide * self.high }
+    {
+        usize::from(self.wide) * usize::from(self.high)
+    }
+}
+
 impl Head {
     // The head in two words: its place, and its size.
     pub(crate) fn from_words(place: u32, size: u32) -> Head
@@ -42,7 +51,7 @@ impl Head {
     pub(crate) fn dots(self) -> usize
         ensures { result ≡ self.wide * self.high }
     {
-        self.wide as usize * self.high as usize
+        usize::from(self.wide) * usize::from(self.high)
     }
 
     // Whether the box has dots and lies on a screen of this size.
@@ -51,7 +60,7 @@ impl Head {
     {
         self.wide >= 1
             && self.high >= 1
-            && self.x as usize + self.wide as usize <= screen.wide as usize
-            && self.y as usize + self.high as usize <= screen.high as usize
+            && usize::from(self.x) + usize::from(self.wide) <= usize::from(screen.wide)
+            && usize::from(self.y) + usize::from(self.high) <= usize::from(screen.high)
     }
 }

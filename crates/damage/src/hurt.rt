@@ -47,10 +47,10 @@ impl Side {
         ensures from { result.from ≡ from +ℤ pos skip }
         ensures to { result.to ≡ from +ℤ pos (skip + len) }
     {
-        let first = from as i32 + skip as i32;
+        let first = i32::from(from) + i32::from(skip);
         Side {
             from: first,
-            to: first + len as i32,
+            to: first + i32::from(len),
         }
     }
 
@@ -58,7 +58,7 @@ impl Side {
     fn contains(self, i: u16) -> bool
         ensures { result ≡ in_side self i }
     {
-        self.from <= i as i32 && (i as i32) < self.to
+        (self.from..self.to).contains(&i32::from(i))
     }
 }
 

@@ -3,6 +3,7 @@ ghost use Rattle.std.specs.Prelude.{◌<◌};
 
 use few::Few;
 
+// Which sides of windows are asked for: one match on the kind says which fields they are.
 #[derive(Clone, Copy)]
 pub(crate) enum Axis {
     Across,

@@ -24,13 +24,13 @@ returns-in-Some c =
     let px : le_z w.x (pos r.left) ≡ true → c.past.result ≡ mag (pos r.left -ℤ w.x) = simp to_z-of_z at c.past.ensures in
     let py : le_z w.y (pos c.args.j) ≡ true → c.past-in-Some.result ≡ mag (pos c.args.j -ℤ w.y) = simp to_z-of_z at c.past-in-Some.ensures in
     let pic = c.picture.result in
-    let span : Span = record { x = c.past.result; y = c.past-in-Some.result; wide = c.wide-wide.result } in
+    let span : Span = record { x = c.past.result; y = c.past-in-Some.result; wide = c.from-wide.result } in
     let sx = px over.left in
     let sy = py (line-top w r c.args.j (length p) over c.requires.top) in
-    let yes = c.copy_out.ensures.answer ∙ line-fits p w r c.args.j at pic span old new (length p) over c.args.self.now.inside c.requires.top c.requires.below c.picture.ensures sx sy c.wide-wide.ensures c.requires.room in
-    let sent = line-copied p w r c.args.j at pic span old new (length p) over c.args.self.now.inside c.requires.top c.requires.below c.picture.ensures sx sy c.wide-wide.ensures c.requires.room (c.copy_out.ensures.done yes) in
-    subst (λ (o : Option Window). Sent at (at + c.wide-wide.result) (dot_row (seen p o) r.left n c.args.j) old new) (sym c.in-Some.is)
-    (subst (λ k. Sent at (at + k) (dot_row (seen p (Some w)) r.left n c.args.j) old new) (sym c.wide-wide.ensures) sent)
+    let yes = c.copy_out.ensures.answer ∙ line-fits p w r c.args.j at pic span old new (length p) over c.args.self.now.inside c.requires.top c.requires.below c.picture.ensures sx sy (c.from-wide.ensures ∙ c.wide.ensures) c.requires.room in
+    let sent = line-copied p w r c.args.j at pic span old new (length p) over c.args.self.now.inside c.requires.top c.requires.below c.picture.ensures sx sy (c.from-wide.ensures ∙ c.wide.ensures) c.requires.room (c.copy_out.ensures.done yes) in
+    subst (λ (o : Option Window). Sent at (at + c.from-wide.result) (dot_row (seen p o) r.left n c.args.j) old new) (sym c.in-Some.is)
+    (subst (λ k. Sent at (at + k) (dot_row (seen p (Some w)) r.left n c.args.j) old new) (sym (c.from-wide.ensures ∙ c.wide.ensures)) sent)
 
 pub returns-in-None : goal.returns-in-None
 returns-in-None c =
@@ -40,9 +40,9 @@ returns-in-None c =
     let at = c.args.at in
     let old = c.args.sent.now in
     let new = c.clear.new.dots in
-    let e = c.wide-wide.ensures in
-    let room : at + c.wide-wide.result ≤ length old = omega (arith, e, c.requires.room) in
-    let yes = c.clear.ensures.answer ∙ run-fits-yes at c.wide-wide.result (length old) room in
-    let sent = line-blank p r.left c.wide-wide.result c.args.j at old new room (c.clear.ensures.done yes) in
-    subst (λ (o : Option Window). Sent at (at + c.wide-wide.result) (dot_row (seen p o) r.left n c.args.j) old new) (sym c.in-None.is)
-    (subst (λ k. Sent at (at + c.wide-wide.result) (dot_row (seen p None) r.left k c.args.j) old new) e sent)
+    let e = c.from-wide.ensures ∙ c.wide.ensures in
+    let room : at + c.from-wide.result ≤ length old = omega (arith, e, c.requires.room) in
+    let yes = c.clear.ensures.answer ∙ run-fits-yes at c.from-wide.result (length old) room in
+    let sent = line-blank p r.left c.from-wide.result c.args.j at old new room (c.clear.ensures.done yes) in
+    subst (λ (o : Option Window). Sent at (at + c.from-wide.result) (dot_row (seen p o) r.left n c.args.j) old new) (sym c.in-None.is)
+    (subst (λ k. Sent at (at + c.from-wide.result) (dot_row (seen p None) r.left k c.args.j) old new) e sent)
