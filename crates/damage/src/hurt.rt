@@ -173,6 +173,7 @@ impl Hurt {
         ensures { (p q : List ℕ) → result ≡ hurts self (desk_of before.now p) (desk_of after.now q) dot.i dot.j }
     {
         let window = Some(self.window);
+        // one match on the kind of damage, where each arm asks something else of the dot
         match self.how {
             How::Turned => dot.turned(before, after),
             How::Moved => dot.turned(before, after) || dot.front(after) == window,

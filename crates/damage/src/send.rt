@@ -16,7 +16,7 @@ use layout::state::State;
 use protocol::Event;
 
 // Writes what an event sends, from the word `at` on: the cells of the grid in which something may look different, each with its dots.
-// Answers where it ends.
+// Answers where it ends. (Parameters as the event's step has them; what the functions below share of them is a scene.)
 pub fn send(
     z: Sizes,
     e: Event,

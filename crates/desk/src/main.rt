@@ -34,9 +34,10 @@ fn show(rt: &HostRuntime, z: Sizes, s: &State, pictures: &[u32]) -> anyhow::Resu
 fn run(rt: &HostRuntime, z: Sizes, budget: Budget, call: &[u8]) -> anyhow::Result<()> {
     let mut pictures = vec![in rt.alloc(); 0u32; budget.pictures]?;
     let mut s = State::new(z.windows.min(255) as u8);
-    let kinds = Kinds { built: [true; 13] };
+    let kinds = Kinds::all();
     let programs = z.programs.min(64) as u8;
     let mut at = 0;
+    // each event says where the next begins
     while at < call.len() {
         match protocol::read(call, at, programs, kinds) {
             Ok((e, end)) => {

@@ -1,7 +1,7 @@
 // A short list in an array: what a Vec is where no memory may be asked for.
 #![tactic(auto)]
 
-ghost use Rattle.std.specs.Prelude.{◌≡◌, ℕ, ◌&&◌, [], ◌∷◌, ◌++◌, length, take, drop, is_some, IfSome, nat_le, nat_lt};
+ghost use Rattle.std.specs.Prelude.{◌≡◌, ℕ, ◌+◌, ◌&&◌, [], ◌∷◌, ◌++◌, length, take, drop, is_some, IfSome, nat_le, nat_lt};
 ghost use Rattle.std.specs.Fn.{CalledAt};
 ghost use Rattle.std.specs.List.Retain.{IsFiltered};
 ghost use Rattle.few.specs.Held.{held, pick};
@@ -54,6 +54,21 @@ impl<T: Copy, const N: usize> Few<T, N> {
         }
         self.items[self.len] = x;
         self.len += 1;
+        true
+    }
+
+    // So many more, where there is room for all of them; whether there is.
+    pub fn extend_from_slice(&mut self, more: &[T]) -> bool
+        ensures answer { result ≡ nat_le (length (held self.old) + length more.now) N }
+        ensures items { held self.new ≡ pick result (held self.old ++ more.now) (held self.old) }
+    {
+        if more.len() > N - self.len {
+            return false;
+        }
+        let end = self.len + more.len();
+        let all = &mut self.items[..];
+        all[self.len..end].copy_from_slice(more);
+        self.len = end;
         true
     }
 

@@ -2,9 +2,10 @@
 // A dot is its column i and its row j, both counted from 0 at the upper left.
 #![tactic(auto)]
 
-ghost use Rattle.std.specs.Prelude.{◌≡◌, ℕ, ◌+◌, ◌-◌, ◌<◌, ◌≤◌, true, ◌&&◌, pos, ◌+ℤ◌, ◌-ℤ◌, int_le, int_lt, nat_le, nat_lt};
+ghost use Rattle.std.specs.Prelude.{◌≡◌, ℕ, ◌+◌, ◌-◌, ◌<◌, ◌≤◌, true, ◌&&◌, pos, ◌+ℤ◌, ◌-ℤ◌, int_le, int_lt, min, nat_le, nat_lt};
 ghost use Rattle.std.specs.Int.Signed.{mag};
 ghost use Rattle.model.specs.Desk.{clamp};
+ghost use Rattle.model.specs.Grid.{from_zero};
 ghost use Rattle.geometry.specs.Boxes.{in_rect, on_screen, in_placed, Neat, Touching, Empty};
 ghost use Rattle.geometry.specs.Meaning.{IsBox, IsWindow, SameRect};
 
@@ -94,7 +95,8 @@ fn neat(left: u16, top: u16, right: u16, below: u16) -> Rect
 }
 
 // The place from 0 up to `limit` that is nearest to `a`.
-fn bound(a: i32, limit: u16) -> u16
+pub fn bound(a: i32, limit: u16) -> u16
+    ensures value { result ≡ min limit (from_zero a) }
     ensures within { result ≤ limit }
     ensures from { (i : ℕ) → i < limit → nat_le result i ≡ int_le a (pos i) }
     ensures upto { (i : ℕ) → i < limit → nat_lt i result ≡ int_lt (pos i) a }

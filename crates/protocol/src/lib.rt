@@ -1,7 +1,7 @@
 // Events and words in bytes: readers, writers, and what ties them.
 #![tactic(auto)]
 
-ghost use Rattle.std.specs.Prelude.{◌≡◌, true, false, ◌&&◌, length, Some, None, nat_lt, slice_index};
+ghost use Rattle.std.specs.Prelude.{◌≡◌, true, false, ◌&&◌, length, Some, None, nat_le, nat_lt, slice_index};
 ghost use Rattle.protocol.specs.Added.{Wrote};
 ghost use Rattle.protocol.specs.Formats.{read_event, read_told, encode, encode_word};
 ghost use Rattle.protocol.specs.Meaning.{Ends, Had, said, told_said, built_of, meaning, word_meaning, had, word_had, part, lies};
@@ -23,7 +23,14 @@ use reader::Reader;
 pub use types::{Event, Fault, Kinds, Part, Patch, Word};
 
 impl Kinds {
-    // Whether there is such a kind, and it is built.
+    // All thirteen are built.
+    pub fn all() -> Kinds
+        ensures { built_of result ≡ (λ kind. nat_le kind 12) }
+    {
+        Kinds { built: [true; 13] }
+    }
+
+    // Whether there is such a kind, and it is built. (A number, as a byte of a call may be: it need not name a kind.)
     pub fn has(self, kind: u8) -> bool
         ensures { result ≡ (nat_lt kind 13 && built_of self kind) }
     {

@@ -1,5 +1,6 @@
 // The bytes of an event or a word, put together and then written at once.
 ghost use Rattle.std.specs.Prelude.{◌≡◌, ℕ, true, ◌+◌, ◌*◌, ◌<◌, ◌≤◌, List, [], ◌∷◌, ◌++◌, length, take, drop, nat_le};
+ghost use Rattle.few.specs.Held.{held};
 ghost use Rattle.protocol.specs.Added.{Added, Wrote};
 ghost use Rattle.protocol.specs.Fields.{digits, unsigned, marked, spell};
 ghost use Rattle.protocol.specs.Fields.{row as a_row};
@@ -8,34 +9,29 @@ ghost use Rattle.protocol.specs.Numbers.{kind_number, word_number};
 
 use crate::kinds::{Kind, WordKind};
 use crate::types::{Part, Patch};
+use few::Few;
 use std::marker::Model;
 
 // Those of the longest line that has no row.
 const MOST: usize = 15;
 
-// The bytes are the first `len` of the array.
 #[derive(Drop)]
 pub struct Line {
-    bytes: [u8; MOST],
-    len: usize,
+    bytes: Few<u8, MOST>,
 }
 
 impl Model for Line {
     ghost Value = { List ℕ };
 
-    ghost view = { λ l. take l.len l.bytes };
-
-    ghost invariant = { λ l. l.len ≤ 15 };
+    ghost view = { λ l. held l.bytes };
 }
 
+// Each asks for room for its own bytes, where the line then stands: that is no fact about every line.
 impl Line {
     fn new() -> Line
         ensures { result ≡ [] }
     {
-        Line {
-            bytes: [0; MOST],
-            len: 0,
-        }
+        Line { bytes: Few::new(0) }
     }
 
     // What an event begins with.
@@ -56,9 +52,7 @@ impl Line {
         requires { length self + length more.now ≤ MOST }
         ensures { result ≡ self ++ more.now }
     {
-        let from = self.len;
-        put(&mut self.bytes, from, more);
-        self.len = from + more.len();
+        let _ = self.bytes.extend_from_slice(more);
         self
     }
 
@@ -117,7 +111,7 @@ impl Line {
     fn as_slice(&self) -> &[u8]
         ensures { result.now ≡ self.now }
     {
-        &self.bytes[..self.len]
+        self.bytes.as_slice()
     }
 
     // Writes it from the byte `at` on, if there is room: how many bytes it has.

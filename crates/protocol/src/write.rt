@@ -1,4 +1,5 @@
 // One writer a kind of event: how many bytes it wrote, or none if there is no room, and then nothing is changed.
+// Its parameters are the fields of the kind, in their order in the bytes.
 ghost use Rattle.std.specs.Prelude.{◌≡◌, true, length};
 ghost use Rattle.model.specs.Desk as desk;
 ghost use Rattle.protocol.specs.Added.{Wrote};

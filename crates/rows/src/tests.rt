@@ -124,11 +124,12 @@ fn carried(call: &[u8]) -> Result<Left, Fail> {
     let mut words = [0; 256];
     let mut used = 0usize;
     let mut at = 0;
+    // each event says where the next begins; a test has no measure, so there are as many turns as bytes at most
     for _ in 0..call.len() {
         if at >= call.len() {
             break;
         }
-        let Ok((e, end)) = protocol::read(call, at, 2, Kinds { built: [true; 13] }) else {
+        let Ok((e, end)) = protocol::read(call, at, 2, Kinds::all()) else {
             return Err(Fail::new("a byte in fault"));
         };
         let clip = state.clip.bytes;

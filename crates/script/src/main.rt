@@ -62,6 +62,7 @@ fn run(rt: &HostRuntime) -> io::Result<()> {
 fn main(rt: HostRuntime) -> ExitCode {
     match run(&rt) {
         Ok(()) => ExitCode::SUCCESS,
+        // what was wrong is written already
         Err(_) => ExitCode::FAILURE,
     }
 }

@@ -112,9 +112,7 @@ pub struct Description {
     pub fault: Option<Fault>,
 }
 
-// All kinds of events, and as many programs as there can be.
-const KINDS: Kinds = Kinds { built: [true; 13] };
-
+// As many programs as there can be.
 const PROGRAMS: u8 = 255;
 
 // The events of a row of bytes, a line each, up to the first fault.
@@ -125,7 +123,7 @@ pub fn describe(heap: Global, bytes: &[u8]) -> Result<Description, AllocError>
     let mut at = 0;
     // `at` goes from the end of one event to that of the next, which only reading it tells
     while at < bytes.len() {
-        match read(bytes, at, PROGRAMS, KINDS) {
+        match read(bytes, at, PROGRAMS, Kinds::all()) {
             Ok((event, end)) => {
                 let shown = Shown {
                     event,

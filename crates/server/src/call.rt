@@ -19,13 +19,6 @@ use layout::state::State;
 use layout::store::store;
 use protocol::{Event, Kinds};
 
-// All thirteen kinds of events are there.
-fn all_kinds() -> Kinds
-    ensures { built_of result ≡ built_kinds }
-{
-    Kinds { built: [true; 13] }
-}
-
 // What is set apart for one event more.
 fn one_more(budget: Budget, used: Used) -> Used
     requires { (used.sent + budget.sent < 2 ^ 64) × (used.words + budget.words < 2 ^ 64) }
@@ -53,7 +46,7 @@ fn next_event(
     if let Some(no) = z.event_refusal(lent, used) {
         return Err(no);
     }
-    match protocol::read(call, at, z.programs as u8, all_kinds()) {
+    match protocol::read(call, at, z.programs as u8, Kinds::all()) {
         Ok(found) => Ok(found),
         Err(fault) => Err(Refusal::Fault {
             place: fault.place as u32,
@@ -61,7 +54,8 @@ fn next_event(
     }
 }
 
-// The events of a call, up to the first that is refused.
+// The events of a call, up to the first that is refused. (What is lent stays apart here, as makers lend it: a struct would be made of the four slices
+// only to be taken apart by the next call.)
 fn events(
     call: &[u8],
     z: Sizes,

@@ -45,6 +45,7 @@ fn own_size(words: &[u8], program: u8) -> Result<usize, Fault>
 {
     let mut size: usize = 0;
     let mut at: usize = 0;
+    // where a word ends is known once it is read
     'measure: while at < words.len() {
         let ((told, _), end) = read_word(words, at)?;
         if told == program {
@@ -74,6 +75,7 @@ fn copy_own(words: &[u8], program: u8, row: &mut [u8]) -> usize
 {
     let mut used: usize = 0;
     let mut at: usize = 0;
+    // as above, a word at a time
     'copy: while at < words.len() {
         // the words were read before, when they were measured: none is in fault
         let Ok(((to, _), end)) = read_word(words, at) else {

@@ -85,7 +85,7 @@ fn tell(told: Option<Told>, source: &[u8], words: &mut [u8], at: usize) -> usize
     }
 }
 
-// Carries an event out, and writes what it sends and tells behind what is written.
+// Carries an event out, and writes what it sends and tells behind what is written. (The slices stay apart, as they are lent.)
 pub fn step(
     z: Sizes,
     s: &mut State,

@@ -16,7 +16,8 @@ pub struct Window {
     pub at: usize,
 }
 
-// The windows by number, of which the first `limit` can be made, and the order, from the back to the front.
+// The windows by number, of which the first `limit` can be made, and the order, from the back to the front. (The windows are no short list of few:
+// numbers are kept, and those without a window lie between.)
 // Contracts say of limit, slots and order one by one what stays: a proof above takes one of them, and a joint fact would have to be opened for it.
 #[derive(Clone, Copy)]
 pub struct Stack {
