@@ -19,6 +19,7 @@ use Rattle.layout.specs.declared.state.State.{State}
 use Rattle.stack.specs.declared.state.Window as table
 use Rattle.desktop.specs.Does.{CarriedOut, told_of, told_had, answered}
 use Rattle.desktop.specs.declared.told.Told.{Told}
+use Rattle.desktop.proofs.Held.{held-told}
 
 -- a desk is sound with any pictures, if it is with some
 same-but-dots : (p q : List ℕ) (o : Option table.Window) → erased (view p o) ≡ erased (view q o)
@@ -84,7 +85,7 @@ carried-to z e s s' p p' r b g l m k d t f =
     record {
       carried = record {
         desk = q;
-        told = t ∙ ap (λ (o : Desk × List (ℕ × Word)). o.1) (sym (does-is z (desk_of s p) e));
+        told = held-told s r b ∙ t ∙ ap (λ (o : Desk × List (ℕ × Word)). o.1) (sym (does-is z (desk_of s p) e));
         good = record {
           sizes = g.sizes;
           limit = m ∙ g.limit;

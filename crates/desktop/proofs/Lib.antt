@@ -1,3 +1,4 @@
+pub mod Held
 pub mod Carrying
 pub mod Arranging
 mod Making

@@ -28,11 +28,11 @@ answered c taken = Some (record { program = c; word = pick taken Done No })
 -- lent pictures as they were, to the last element
 pub record Carried (z : Sizes) (e : Event) (s : State) (p : List ℕ) (s' : State) (p' : List ℕ) (r : Option Told) : Type 0 where
   pub desk : desk_of s' p' ≡ (after z (desk_of s p) e).0
-  pub told : told_of (clip_in s) r ≡ (after z (desk_of s p) e).1
+  pub told : told_of s.clip.bytes.items r ≡ (after z (desk_of s p) e).1
   pub good : Good z s' (length p')
   pub still : taken z (desk_of s p) e ≡ false → p' ≡ p
 
--- the same, and the bytes that are told lie in the clipboard as it was
+-- the same, and the bytes that are told lie in those that the clipboard held
 pub record CarriedOut (z : Sizes) (e : Event) (s : State) (p : List ℕ) (s' : State) (p' : List ℕ) (r : Option Told) : Type 0 where
   pub carried : Carried z e s p s' p' r
   pub had : told_had (clip_in s) r ≡ true

@@ -181,9 +181,9 @@ told-brief z d (key k) = key-brief d _ _
 told-brief z d paste = clip-brief d _
 
 -- what was carried out was taken if no is not told
-pub granted-taken : (z : layout.Sizes) (s : State) (p : List ℕ) (e : Event) (r : Option Told) → told_of (clip_in s) r ≡ (after (sizes_of z) (desk_of s p) e).1 → granted_by r ≡ taken (sizes_of z) (desk_of s p) e
+pub granted-taken : (z : layout.Sizes) (s : State) (p : List ℕ) (e : Event) (r : Option Told) → told_of s.clip.bytes.items r ≡ (after (sizes_of z) (desk_of s p) e).1 → granted_by r ≡ taken (sizes_of z) (desk_of s p) e
 granted-taken z s p e r h =
-    granted-is (clip_in s) r ∙ ap all-grant (h ∙ ap (λ (o : Desk × List (ℕ × desk.Word)). o.1) (does-is z (desk_of s p) e)) ∙ taken-grants (sizes_of z) (desk_of s p) e
+    granted-is s.clip.bytes.items r ∙ ap all-grant (h ∙ ap (λ (o : Desk × List (ℕ × desk.Word)). o.1) (does-is z (desk_of s p) e)) ∙ taken-grants (sizes_of z) (desk_of s p) e
 
 -- what was carried out is a step from one state to the other
 pub stepped : (z : layout.Sizes) (e : protocol.Event) (s s' : State) (p p' bs : List ℕ) (r : Option Told) (took : Bool) → took ≡ granted_by r → Carried (sizes_of z) (meaning bs e) s p s' p' r → Step z e took s s' p' bs p
