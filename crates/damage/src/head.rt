@@ -12,6 +12,7 @@ pub(crate) struct Size {
 }
 
 // What stands before a box's dots: its place on the screen, and how many dots it has across and down.
+// (Not protocol's Patch, whose place is a window's own.)
 #[derive(Clone, Copy)]
 pub(crate) struct Head {
     pub(crate) x: u16,

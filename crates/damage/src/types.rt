@@ -25,7 +25,7 @@ pub(crate) struct Edges {
     pub(crate) limit: u16,
 }
 
-// A box on the desk. It is not geometry's Rect, whose places begin at 0, since a side here is passed on alone, for its axis.
+// A box on the desk. It is not geometry's Rect: its places may lie before 0, and a side of it is passed on alone.
 #[derive(Clone, Copy)]
 pub(crate) struct Placed {
     pub(crate) across: Side,

@@ -1,4 +1,5 @@
-// A short list in an array: what a Vec is where no memory may be asked for.
+// A short list in an array: what a Vec is where no memory may be asked for. It is `Copy`, which the kit's ArrayVec is not: a state holds it, and a state is
+// kept by value while an event changes another.
 #![tactic(auto)]
 
 ghost use Rattle.std.specs.Prelude.{◌≡◌, ℕ, ◌+◌, ◌&&◌, [], ◌∷◌, ◌++◌, length, take, drop, is_some, IfSome, nat_le, nat_lt};

@@ -11,6 +11,7 @@ pub struct Few<T, const N: usize> {
     ghost whole: { length items ≡ N },
 }
 
+// By hand: no derive makes a Clone of a generic struct with a ghost field.
 impl<T: Copy, const N: usize> Clone for Few<T, N> {
     ghost is_clone = { λ x y. y ≡ x };
 

@@ -142,6 +142,7 @@ impl Part {
     {
         let high = self.area.high;
         let up = to.area.y <= self.area.y;
+        // one loop for both ways, by the number of rows done
         for k in 0..high {
             let r = if up { k } else { high - 1 - k };
             copy_run(pictures, self.row(r), to.row(r), self.area.wide);
@@ -241,7 +242,7 @@ pub fn dot(pictures: &[u32], picture: Picture, i: usize, j: usize) -> u32
     pictures.get(k).copied().unwrap_or(0)
 }
 
-// The colour in four bytes, the low one first.
+// The colour in four bytes, the low one first. (protocol reads a number so too; neither crate stands on the other, and it is one call of the library.)
 fn colour_at(call: &[u8], k: usize) -> u32
     requires { k + 4 ≤ length call.now }
     ensures { result ≡ colour_at call.now k }

@@ -1,5 +1,6 @@
 // One reader a kind of event. Each is called where the fields of the kind come next.
 // (`Close` and `Raise` differ in the kind alone; what they would share is two fields, and a helper for those is no shorter.)
+ghost use Rattle.std.specs.Prelude.{ℕ};
 ghost use Rattle.protocol.specs.Next.{ReadEvent};
 
 use crate::kinds::Kind;
@@ -114,7 +115,7 @@ fn read_offer(mut r: Reader<'_>, programs: u8) -> Result<(Event, usize), Fault>
 }
 
 fn read_point(mut r: Reader<'_>) -> Result<(Event, usize), Fault>
-    ensures { ReadEvent Kind.Point 0 r.entry result }
+    ensures { (p : ℕ) → ReadEvent Kind.Point p r.entry result }
 {
     let x = r.near()?;
     let y = r.near()?;
@@ -122,14 +123,14 @@ fn read_point(mut r: Reader<'_>) -> Result<(Event, usize), Fault>
 }
 
 fn read_press(mut r: Reader<'_>) -> Result<(Event, usize), Fault>
-    ensures { ReadEvent Kind.Press 0 r.entry result }
+    ensures { (p : ℕ) → ReadEvent Kind.Press p r.entry result }
 {
     let down = r.mark()?;
     Ok((Event::Press { down }, r.end()))
 }
 
 fn read_key(mut r: Reader<'_>) -> Result<(Event, usize), Fault>
-    ensures { ReadEvent Kind.Key 0 r.entry result }
+    ensures { (p : ℕ) → ReadEvent Kind.Key p r.entry result }
 {
     let key = r.four()?;
     Ok((Event::Key { key }, r.end()))

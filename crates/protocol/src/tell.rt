@@ -1,4 +1,5 @@
 // One writer a kind of word: how many bytes it wrote, or none if there is no room, and then nothing is changed.
+// (`no` and `done` share all but their kind: one function with the kind as a parameter would let a kind be written that has other fields.)
 ghost use Rattle.std.specs.Prelude.{◌≡◌, true, length};
 ghost use Rattle.model.specs.Desk as desk;
 ghost use Rattle.protocol.specs.Added.{Wrote};

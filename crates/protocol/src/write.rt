@@ -1,5 +1,6 @@
 // One writer a kind of event: how many bytes it wrote, or none if there is no room, and then nothing is changed.
-// Its parameters are the fields of the kind, in their order in the bytes.
+// Its parameters are the fields of the kind, in their order in the bytes. (`close` and `raise` have the same: one function with the kind as a parameter
+// would let a kind be written that has other fields.)
 ghost use Rattle.std.specs.Prelude.{◌≡◌, true, length};
 ghost use Rattle.model.specs.Desk as desk;
 ghost use Rattle.protocol.specs.Added.{Wrote};

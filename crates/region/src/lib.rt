@@ -30,7 +30,7 @@ pub enum Op {
     Cut,
 }
 
-// An enum and one match: with a closure in its place `F.post` would have to say at each call what `act` says once.
+// An enum and one match: with a closure in its place each caller's contract would have to say of the closure what `act` says once.
 impl Op {
     // Whether a dot that is in a and in b or not is in what this makes of them.
     fn holds(self, a: bool, b: bool) -> bool
@@ -505,16 +505,14 @@ pub fn count(a: &[u32]) -> Option<u32>
 }
 
 // The laws that callers may lean on.
-pub fn laws() -> u8
+pub fn laws()
     ensures unique { Unique }
     ensures found { Found }
     ensures few { Few }
     ensures single { BoxIs }
     ensures apart { Apart }
     ensures measured { Measured }
-{
-    0
-}
+{}
 
 #[cfg(test)]
 mod tests;

@@ -45,7 +45,7 @@ impl Kind {
         }
     }
 
-    // As a &'static str, which messages take beside `wants`.
+    // A text that lasts, as `wants` is: a Display would print the same, and a message could not hold it.
     pub fn name(self) -> &'static str
         ensures { result.now ≡ name_of self }
     {

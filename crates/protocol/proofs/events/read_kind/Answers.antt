@@ -30,13 +30,13 @@ pub returns-in-Offer : goal.returns-in-Offer
 returns-in-Offer c = rw c.in-Offer.is c.read_offer.ensures
 
 pub returns-in-Point : goal.returns-in-Point
-returns-in-Point c = rw c.in-Point.is c.read_point.ensures
+returns-in-Point c = rw c.in-Point.is (c.read_point.ensures c.args.programs)
 
 pub returns-in-Press : goal.returns-in-Press
-returns-in-Press c = rw c.in-Press.is c.read_press.ensures
+returns-in-Press c = rw c.in-Press.is (c.read_press.ensures c.args.programs)
 
 pub returns-in-Key : goal.returns-in-Key
-returns-in-Key c = rw c.in-Key.is c.read_key.ensures
+returns-in-Key c = rw c.in-Key.is (c.read_key.ensures c.args.programs)
 
 pub returns-in-Paste : goal.returns-in-Paste
 returns-in-Paste c = rw c.in-Paste.is (ap (λ to. Ok (paste, to)) c.end.ensures, refl)
