@@ -1,7 +1,7 @@
 // Events and words in bytes: readers, writers, and what ties them.
 #![tactic(auto)]
 
-ghost use Rattle.std.specs.Prelude.{◌≡◌, true, false, ◌&&◌, length, Some, None, nat_le, nat_lt, slice_index};
+ghost use Rattle.std.specs.Prelude.{◌≡◌, true, false, ◌&&◌, length, Some, None, replicate, nat_le, nat_lt, slice_index};
 ghost use Rattle.protocol.specs.Added.{Wrote};
 ghost use Rattle.protocol.specs.Formats.{read_event, read_told, encode, encode_word};
 ghost use Rattle.protocol.specs.Meaning.{Ends, Had, said, told_said, built_of, meaning, word_meaning, had, word_had, part, lies};
@@ -25,7 +25,8 @@ pub use types::{Event, Fault, Kinds, Part, Patch, Word};
 impl Kinds {
     // All thirteen are built.
     pub fn all() -> Kinds
-        ensures { built_of result ≡ (λ kind. nat_le kind 12) }
+        ensures each { result.built ≡ replicate 13 true }
+        ensures value { built_of result ≡ (λ kind. nat_le kind 12) }
     {
         Kinds { built: [true; 13] }
     }

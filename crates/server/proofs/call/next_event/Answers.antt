@@ -13,7 +13,7 @@ returns-in-Ok c =
     let r = c.in-Ok.ensures in
     record {
       room = sym c.in_default.ensures;
-      value = r.value ∙ ap (λ f. read_event f c.args.z.programs c.args.call.now c.args.at) c.all.ensures;
+      value = r.value ∙ ap (λ f. read_event f c.args.z.programs c.args.call.now c.args.at) c.all.ensures.value;
       had = r.had;
       onward = r.ends.0;
       within = r.ends.1;
@@ -23,4 +23,4 @@ pub returns-in-Err : goal.returns-in-Err
 returns-in-Err c go =
     let r = c.in-Err.ensures in
     ap (λ w. unless c.args.at w (next c.args.at go (read_event (sizes_of c.args.z).built c.args.z.programs c.args.call.now c.args.at))) (sym c.in_default.ensures)
-    ∙ ap (next c.args.at go) (sym (r.value ∙ ap (λ f. read_event f c.args.z.programs c.args.call.now c.args.at) c.all.ensures))
+    ∙ ap (next c.args.at go) (sym (r.value ∙ ap (λ f. read_event f c.args.z.programs c.args.call.now c.args.at) c.all.ensures.value))
