@@ -39,7 +39,7 @@ pub(crate) fn store_table(s: &Stack, work: &mut [u32])
     ensures flags { (n : ℕ) → n < s.now.limit → flagged (word work.new (table_at + 3 * n)) ≡ true }
     ensures rest { (k : ℕ) → (k < table_at) ⊎ (table_at + 3 * s.now.limit ≤ k) → slice_index work.new k ≡ slice_index work.old k }
 {
-    for n in 0..s.limit {
-        entry::store_entry(work, n, s.slot(n));
+    for (n, slot) in s.windows[..s.limit].iter().enumerate() {
+        entry::store_entry(work, n, *slot);
     }
 }
