@@ -19,6 +19,7 @@ pub(crate) fn entries_good(head: &Head, windows: u8, z: Sizes) -> bool
 }
 
 // The windows of the table, with their pictures one after another, and an empty order.
+// (By number, as set_window takes them: of windows written through iter_mut a proof knows nothing.)
 pub(crate) fn load_table(head: &Head, count: u8) -> Stack
     ensures slots { slots_of result ≡ packed 0 (map (entry_at head.now.work.now table_at) (range_with_len 0 count)) }
     ensures order { order_of result ≡ [] }
