@@ -18,7 +18,7 @@ use Rattle.layout.specs.Budget.{first, short, start_refusal, event_refusal, work
 use Rattle.layout.specs.Head.{table_at, word, entry_at, flagged, shaped, each, orderly, sizes_in, table_in, order_in, entries_sound, stack_sound, room_sound}
 use Rattle.layout.specs.declared.sizes.Refusal.{Refusal}
 use Rattle.layout.specs.Refusals.{numbered_one, numbered}
-use Rattle.layout.specs.Loads.{StackedAs, Headed, Sized}
+use Rattle.layout.specs.Loads.{StackedAs, Sized}
 use Rattle.layout.proofs.Ranges.{ranges}
 
 -- what a start that is not refused has
@@ -81,13 +81,13 @@ too_short work size h =
 pub room-not : (work : List ℕ) (size : ℕ) (r : ℕ × ℕ) → start_refusal (sizes_in work) size (length work) ≡ Some r → room_sound work size ≡ false
 room-not work size r e = ap (λ o. pick (is_some o) false true) e
 
-pub sized : (work : List ℕ) (size : ℕ) (z : Sizes) (o : Option Refusal) (b : Bool) → Headed work (Some z) → numbered o ≡ start_refusal (sizes_of z) size (length work) →
+pub sized : (work : List ℕ) (size : ℕ) (z : Sizes) (o : Option Refusal) (b : Bool) → sizes_of z ≡ sizes_in work → numbered o ≡ start_refusal (sizes_of z) size (length work) →
     is_some o ≡ not b → Sized work size (then_some b z)
 unfolding sizes_in FitsSizes
 sized work size z None true h e q =
-    let r : start_refusal (sizes_in work) size (length work) ≡ None = rw (← h.1) (sym e) in
-    record { sizes = h.1; room = r; long = h.0; few = subst (λ y. y.windows ≤ 255) (sym h.1) (starts (sizes_in work) size (length work) r).fits.4 }
-sized work size z (Some r) false h e q = room-not work size (numbered_one r) (ap (λ y. start_refusal y size (length work)) (sym h.1) ∙ sym e)
+    let r : start_refusal (sizes_in work) size (length work) ≡ None = rw (← h) (sym e) in
+    record { sizes = h; room = r; few = subst (λ y. y.windows ≤ 255) (sym h) (starts (sizes_in work) size (length work) r).fits.4 }
+sized work size z (Some r) false h e q = room-not work size (numbered_one r) (ap (λ y. start_refusal y size (length work)) (sym h) ∙ sym e)
 sized work size z None false h e q = cc
 sized work size z (Some r) true h e q = cc
 

@@ -5,6 +5,7 @@ use Rattle.few.specs.Held.{held}
 use Rattle.stack.specs.declared.state.Window.{Window}
 use Rattle.stack.specs.declared.state.Stack.{Stack}
 use Rattle.stack.specs.View.{numbered, slots_of, order_of}
+use Rattle.layout.specs.declared.head.Head.{Head}
 use Rattle.layout.specs.declared.sizes.Sizes.{Sizes}
 use Rattle.layout.specs.declared.state.Clipboard.{Clipboard}
 use Rattle.layout.specs.declared.state.State.{State}
@@ -57,17 +58,16 @@ Clipping work at w (Some c) = Clipped work at w c
 pub record SizedAs (work : List ℕ) (size : ℕ) (z : Sizes) : Type 0 where
   pub sizes : sizes_of z ≡ sizes_in work
   pub room : start_refusal (sizes_in work) size (length work) ≡ None
-  pub long : 2048 ≤ length work
   pub few : z.windows ≤ 255
 
 abbrev pub Sized : List ℕ → ℕ → Option Sizes → Type 0
 Sized work size None = room_sound work size ≡ false
 Sized work size (Some z) = SizedAs work size z
 
--- the sizes in a head that is there
-abbrev pub Headed : List ℕ → Option Sizes → Type 0
+-- a work's head, where it is long enough to have one
+abbrev pub Headed : List ℕ → Option Head → Type 0
 Headed work None = length work < head_end
-Headed work (Some z) = (head_end ≤ length work) × (sizes_of z ≡ sizes_in work)
+Headed work (Some h) = h.work.now ≡ work
 
 -- why nothing can be loaded, as a refusal's number and place: pictures that are too short for sizes in their ranges, or else the work itself
 abbrev pub load_refusal : List ℕ → ℕ → ℕ × ℕ

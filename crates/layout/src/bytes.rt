@@ -15,6 +15,7 @@ fn byte_at(work: &[u32], at: usize, i: usize) -> u8
 }
 
 // The first `count` of the bytes that begin at a word.
+// (By number: the check takes no loop over a chain with a flat_map that gives arrays, as the four bytes of a word are.)
 pub(crate) fn load_bytes<const N: usize>(work: &[u32], at: usize, count: usize) -> Few<u8, N>
     requires room { count ≤ N }
     requires long { 4 * at + count ≤ 4 * length work.now }

@@ -5,7 +5,7 @@ ghost use Rattle.layout.specs.Head.{entry, entry_at, table_at, low, high};
 ghost use Rattle.layout.specs.Head.{place as place_of, flagged as flagged_of, shaped as shaped_of};
 ghost use Rattle.layout.specs.Stored.{bare};
 
-use crate::head::TABLE;
+use crate::head::{Head, TABLE};
 use crate::sizes::Sizes;
 use halves::{halves, word};
 use stack::state::Window;
@@ -107,23 +107,22 @@ fn shaped(z: Sizes, slot: Option<Window>) -> bool
 }
 
 // The window n of the table.
-pub(crate) fn load_entry(work: &[u32], n: usize) -> Option<Window>
-    requires { table_at + 3 * n + 3 ≤ length work.now }
-    ensures { result ≡ entry_at work.now table_at n }
+pub(crate) fn load_entry(head: &Head, n: u8) -> Option<Window>
+    ensures { result ≡ entry_at head.now.work.now table_at n }
 {
+    let at = TABLE + 3 * usize::from(n);
     unpack(Entry {
-        flags: work[TABLE + 3 * n],
-        place: work[TABLE + 3 * n + 1],
-        sides: work[TABLE + 3 * n + 2],
+        flags: head.work[at],
+        place: head.work[at + 1],
+        sides: head.work[at + 2],
     })
 }
 
 // Whether the entry of the window n is as it has to be.
-pub(crate) fn entry_good(work: &[u32], n: usize, z: Sizes) -> bool
-    requires { table_at + 3 * n + 3 ≤ length work.now }
-    ensures { result ≡ (flagged_of (slice_index work.now (table_at + 3 * n)) && shaped_of (sizes_of z) (entry_at work.now table_at n)) }
+pub(crate) fn entry_good(head: &Head, n: u8, z: Sizes) -> bool
+    ensures { result ≡ (flagged_of (slice_index head.now.work.now (table_at + 3 * n)) && shaped_of (sizes_of z) (entry_at head.now.work.now table_at n)) }
 {
-    flagged(work[TABLE + 3 * n]) && shaped(z, load_entry(work, n))
+    flagged(head.work[TABLE + 3 * usize::from(n)]) && shaped(z, load_entry(head, n))
 }
 
 // The window n of the table is this one from now on; all other words stay as they are.

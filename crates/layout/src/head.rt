@@ -1,4 +1,9 @@
-// The head of the lent work: where its parts begin. What they hold is in specs/Head.antt; the six sizes are its first words.
+// The head of the lent work, and where its parts begin. What they hold is in specs/Head.antt; the six sizes are its first words.
+ghost use Rattle.std.specs.Prelude.{◌≡◌, ◌≤◌, length};
+ghost use Rattle.layout.specs.Sizes.{sizes_of};
+ghost use Rattle.layout.specs.Head.{head_end, sizes_in};
+
+use crate::sizes::Sizes;
 
 // the pointer's place
 pub(crate) const POINTER: usize = 6;
@@ -23,3 +28,39 @@ pub(crate) const TABLE: usize = 1098;
 
 // where the head ends
 pub(crate) const END: usize = 2048;
+
+// A lent work that is long enough to have a head. (Its readers take a &Head: a clause then says head.now, not head.entry.)
+#[derive(Clone, Copy)]
+pub(crate) struct Head<'a> {
+    pub(crate) work: &'a [u32],
+    ghost long: { head_end ≤ length work.now },
+}
+
+impl<'a> Head<'a> {
+    ghost use Rattle.layout.specs.Loads.{Headed};
+
+    // The head of a work, where there is one.
+    pub(crate) fn of(work: &'a [u32]) -> Option<Head<'a>>
+        ensures { Headed work.now result }
+    {
+        if work.len() < END {
+            return None;
+        }
+        Some(Head { work })
+    }
+
+    // The sizes that it holds.
+    #[tactic(auto, unfolding(crate::specs::Head::sizes_in))]
+    pub(crate) fn sizes(&self) -> Sizes
+        ensures { sizes_of result ≡ sizes_in self.now.work.now }
+    {
+        Sizes {
+            wide: self.work[0],
+            high: self.work[1],
+            windows: self.work[2],
+            programs: self.work[3],
+            side: self.work[4],
+            dots: self.work[5],
+        }
+    }
+}

@@ -1,56 +1,42 @@
 // The state that the head of a lent work holds.
-ghost use Rattle.std.specs.Prelude.{◌≡◌, ◌≤◌, length};
+ghost use Rattle.std.specs.Prelude.{◌≡◌, ◌≤◌};
 ghost use Rattle.layout.specs.Sizes.{sizes_of};
 ghost use Rattle.layout.specs.Head.{sizes_in};
-ghost use Rattle.layout.specs.Loads.{Headed, Sized, Stacked, Loaded, load_refusal};
+ghost use Rattle.layout.specs.Loads.{Sized, Stacked, Loaded, load_refusal};
 ghost use Rattle.layout.specs.Refusals.{numbered_one};
 
+use crate::head::{COUNT, Head, POINTER};
 use crate::sizes::{Refusal, Sizes, Slice};
 use crate::state::State;
-use crate::{clip, entry, head, order, table};
+use crate::{clip, entry, order, table};
 use stack::state::Stack;
 
-// The sizes that the head holds, where there is one.
-fn head_sizes(work: &[u32]) -> Option<Sizes>
-    ensures { Headed work.now result }
-{
-    if work.len() < head::END {
-        return None;
-    }
-    Some(Sizes {
-        wide: work[0],
-        high: work[1],
-        windows: work[2],
-        programs: work[3],
-        side: work[4],
-        dots: work[5],
-    })
-}
-
 // The sizes, where they are in their ranges and the lent memory has room for them.
-fn load_sizes(work: &[u32], pictures: usize) -> Option<Sizes>
-    ensures { Sized work.now pictures result }
+fn load_sizes(head: &Head, pictures: usize) -> Option<Sizes>
+    ensures { Sized head.now.work.now pictures result }
 {
-    let z = head_sizes(work)?;
-    z.start_refusal(pictures, work.len()).is_none().then_some(z)
+    let z = head.sizes();
+    z.start_refusal(pictures, head.work.len())
+        .is_none()
+        .then_some(z)
 }
 
 // The windows and their order, where they are sound.
-fn load_stack(work: &[u32], z: Sizes) -> Option<Stack>
-    requires sizes { sizes_of z ≡ sizes_in work.now }
+fn load_stack(head: &Head, z: Sizes) -> Option<Stack>
+    requires sizes { sizes_of z ≡ sizes_in head.now.work.now }
     requires few { z.windows ≤ 255 }
-    requires long { 2048 ≤ length work.now }
-    ensures { Stacked work.now result }
+    ensures { Stacked head.now.work.now result }
 {
-    let count = work[head::COUNT] as usize;
+    let windows = z.windows as u8;
+    let count = head.work[COUNT] as usize;
     if count > 255 {
         return None;
     }
-    if !table::entries_good(work, z) {
+    if !table::entries_good(head, windows, z) {
         return None;
     }
-    let mut s = table::load_table(work, z.windows as u8);
-    order::load_order(work, count, &mut s);
+    let mut s = table::load_table(head, windows);
+    s.order = order::load_order(head, count);
     if !order::order_good(&s) {
         return None;
     }
@@ -64,9 +50,10 @@ fn load_stack(work: &[u32], z: Sizes) -> Option<Stack>
 pub fn load_refusal(work: &[u32], pictures: usize) -> Refusal
     ensures { numbered_one result ≡ load_refusal work.now pictures }
 {
-    let Some(z) = head_sizes(work) else {
+    let Some(head) = Head::of(work) else {
         return Refusal::Short(Slice::Work);
     };
+    let z = head.sizes();
     if z.refusal().is_some() || z.dots as usize <= pictures {
         return Refusal::Short(Slice::Work);
     }
@@ -77,11 +64,12 @@ pub fn load_refusal(work: &[u32], pictures: usize) -> Refusal
 pub fn load(work: &[u32], pictures: usize) -> Option<(Sizes, State)>
     ensures { Loaded work.now pictures result }
 {
-    let z = load_sizes(work, pictures)?;
-    let stack = load_stack(work, z)?;
-    let clip = clip::load_clip(work, work[head::CLIP])?;
-    let (keys, held) = order::load_hands(work[head::HANDS], &stack)?;
-    let (x, y) = entry::load_place(work[head::POINTER]);
+    let head = Head::of(work)?;
+    let z = load_sizes(&head, pictures)?;
+    let stack = load_stack(&head, z)?;
+    let clip = clip::load_clip(&head)?;
+    let (keys, held) = order::load_hands(&head, &stack)?;
+    let (x, y) = entry::load_place(head.work[POINTER]);
     Some((
         z,
         State {

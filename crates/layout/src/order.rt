@@ -1,23 +1,23 @@
 // The stacking order in the lent work.
-ghost use Rattle.std.specs.Prelude.{◌≡◌, ◌≤◌, false, length, is_some, Some, None, nat_eq, slice_index, slice_index_or};
+ghost use Rattle.std.specs.Prelude.{◌≡◌, ◌≤◌, length, is_some, Some, None, nat_eq, slice_index, slice_index_or};
 ghost use Rattle.model.specs.Basics.{bit};
+ghost use Rattle.few.specs.Held.{held};
 ghost use Rattle.stack.specs.View.{slots_of, order_of, numbered};
-ghost use Rattle.layout.specs.Head.{bytes_in, orderly, each, order_at, head_end};
+ghost use Rattle.layout.specs.Head.{bytes_in, orderly, each, order_at, word};
 ghost use Rattle.layout.specs.Loads.{Tallied, Hand, Handed};
 
-use crate::{bytes, head};
+use crate::bytes;
+use crate::head::{HANDS, Head, ORDER};
+use few::Few;
 use halves::halves;
 use stack::state::{Stack, Window};
 
 // Reads an order of `count` numbers.
-pub(crate) fn load_order(work: &[u32], count: usize, s: &mut Stack)
-    requires few { count ≤ 255 }
-    requires long { head_end ≤ length work.now }
-    ensures order { order_of s.new ≡ bytes_in work.now order_at count }
-    ensures slots { slots_of s.new ≡ slots_of s.old }
-    ensures limit { s.new.limit ≡ s.old.limit }
+pub(crate) fn load_order(head: &Head, count: usize) -> Few<u8, 255>
+    requires { count ≤ 255 }
+    ensures { held result ≡ bytes_in head.now.work.now order_at count }
 {
-    s.order = bytes::load_bytes(work, head::ORDER, count);
+    bytes::load_bytes(head.work, ORDER, count)
 }
 
 // How often each number stands in the order, or nothing where one is too high.
@@ -81,10 +81,10 @@ fn load_hand(s: &Stack, k: u16) -> Option<Option<u8>>
     s.window(n).map(|_| Some(n))
 }
 
-// The windows that have the keys and the pointer, from their word.
-pub(crate) fn load_hands(w: u32, s: &Stack) -> Option<(Option<u8>, Option<u8>)>
-    ensures { Handed (slots_of s.now) w result }
+// The windows that have the keys and the pointer.
+pub(crate) fn load_hands(head: &Head, s: &Stack) -> Option<(Option<u8>, Option<u8>)>
+    ensures { Handed (slots_of s.now) (word head.now.work.now 7) result }
 {
-    let (keys, held) = halves(w);
+    let (keys, held) = halves(head.work[HANDS]);
     Some((load_hand(s, keys)?, load_hand(s, held)?))
 }

@@ -7,28 +7,27 @@ ghost use Rattle.layout.specs.Head.{entry_at, flagged, shaped, each, word, table
 ghost use Rattle.layout.specs.Stored.{bare};
 
 use crate::entry;
+use crate::head::Head;
 use crate::sizes::Sizes;
 use stack::state::Stack;
 
-// Whether the entries of all windows are as they have to be.
-pub(crate) fn entries_good(work: &[u32], z: Sizes) -> bool
-    requires few { z.windows ≤ 255 }
-    requires long { head_end ≤ length work.now }
-    ensures { result ≡ each (λ n. flagged (word work.now (table_at + 3 * n)) && shaped (sizes_of z) (entry_at work.now table_at n)) z.windows }
+// Whether the entries of so many windows are as they have to be.
+pub(crate) fn entries_good(head: &Head, windows: u8, z: Sizes) -> bool
+    ensures { result ≡ each (λ n. flagged (word head.now.work.now (table_at + 3 * n)) && shaped (sizes_of z) (entry_at head.now.work.now table_at n)) windows }
 {
-    (0..z.windows as usize).all(|n| entry::entry_good(work, n, z))
+    (0..windows).all(|n| entry::entry_good(head, n, z))
 }
 
 // The windows of the table, with their pictures one after another, and an empty order.
-pub(crate) fn load_table(work: &[u32], count: u8) -> Stack
-    requires { head_end ≤ length work.now }
-    ensures slots { slots_of result ≡ packed 0 (map (entry_at work.now table_at) (range_with_len 0 count)) }
+// (By number, as set_window takes them: of windows written through iter_mut a proof knows nothing.)
+pub(crate) fn load_table(head: &Head, count: u8) -> Stack
+    ensures slots { slots_of result ≡ packed 0 (map (entry_at head.now.work.now table_at) (range_with_len 0 count)) }
     ensures order { order_of result ≡ [] }
     ensures limit { result.limit ≡ count }
 {
     let mut s = Stack::new(count);
     for n in 0..count {
-        s.set_window(n, entry::load_entry(work, usize::from(n)));
+        s.set_window(n, entry::load_entry(head, n));
     }
     s.pack();
     s
@@ -41,7 +40,7 @@ pub(crate) fn store_table(s: &Stack, work: &mut [u32])
     ensures flags { (n : ℕ) → n < s.now.limit → flagged (word work.new (table_at + 3 * n)) ≡ true }
     ensures rest { (k : ℕ) → (k < table_at) ⊎ (table_at + 3 * s.now.limit ≤ k) → slice_index work.new k ≡ slice_index work.old k }
 {
-    for n in 0..s.limit {
-        entry::store_entry(work, n, s.slot(n));
+    for (n, slot) in s.windows[..s.limit].iter().enumerate() {
+        entry::store_entry(work, n, *slot);
     }
 }

@@ -6,4 +6,4 @@ use Rattle.layout.proofs.table.entries_good.Goals as goal
 
 pub returns : goal.returns
 returns c =
-    all_from_yields_List _ _ _ _ c.all.ensures.ran (YieldsList-from_range 0 c.args.z.windows c.args.z.windows refl (omega arith)) (λ x b q k. search (rules, tests)) ∙ each-range _ c.args.z.windows
+    all_from_yields_List _ _ _ _ c.all.ensures.ran (YieldsList-from_range 0 c.args.windows c.args.windows refl (omega arith)) (λ x b q k. search (rules, tests)) ∙ each-range _ c.args.windows

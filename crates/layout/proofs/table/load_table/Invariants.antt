@@ -5,4 +5,4 @@ use Rattle.layout.proofs.table.load_table.Given as goal
 
 abbrev pub invariant-loop-n : goal.invariant-loop-n
 invariant-loop-n l =
-    ((k : ℕ) → k < l.n → get_or (slots_of l.s) k None ≡ entry_at l.work table_at k) × (order_of l.s ≡ []) × (l.s.limit ≡ l.count)
+    ((k : ℕ) → k < l.n → get_or (slots_of l.s) k None ≡ entry_at l.head.work.now table_at k) × (order_of l.s ≡ []) × (l.s.limit ≡ l.count)

@@ -1,6 +1,5 @@
 use Rattle.std.proofs.Common.{◌+◌, ◌*◌, ap, ◌∙◌, inl, inr, arith, below_more}
 use Rattle.layout.specs.Head.{flagged, table_at}
-use Rattle.layout.specs.Stored.{bare}
 use Rattle.layout.proofs.Words.{entry-same}
 use Rattle.layout.proofs.table.store_table.Goals as goal
 
@@ -12,7 +11,7 @@ loop-n-preserved c =
     let at = table_at in (
       below_more _ n
           (λ k h. entry-same c.store_entry.new.work c.loop-n.work at k (e.rest (at + 3 * k) (inl (omega arith))) (e.rest (at + 3 * k + 1) (inl (omega arith))) (e.rest (at + 3 * k + 2) (inl (omega arith))) ∙ i.0 k h)
-          (e.window ∙ ap bare c.slot.ensures),
+          e.window,
       below_more _ n (λ k h. ap flagged (e.rest (at + 3 * k) (inl (omega arith))) ∙ i.1 k h) e.flags,
       λ k o. e.rest k (elim o [ inl h ↦ inl (omega arith) | inr h ↦ inr (omega arith) ]) ∙ i.2 k o,
     )
