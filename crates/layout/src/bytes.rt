@@ -38,7 +38,7 @@ fn word_at(bytes: &[u8], i: usize) -> u32
 }
 
 // Writes bytes from a word on. The last word is filled up with zeros; all other words stay as they are.
-// (By index: of words written through chunks_mut a proof knows nothing.)
+// (By index: of words written through a mutable iterator a proof knows nothing.)
 pub(crate) fn store_bytes(bytes: &[u8], work: &mut [u32], at: usize)
     requires { at + (length bytes.now + 3) / 4 ≤ length work.old }
     ensures bytes { bytes_in work.new at (length bytes.now) ≡ bytes.now }

@@ -18,11 +18,11 @@ struct Entry {
     sides: u32,
 }
 
-// A place on the desk from half a word. (The library has no sum of a signed and an unsigned number.)
+// A place on the desk from half a word.
 fn unbias(v: u16) -> i16
     ensures { result ≡ pos v -ℤ pos 32768 }
 {
-    (i32::from(v) - 32768) as i16
+    i16::MIN.saturating_add_unsigned(v)
 }
 
 fn bias(v: i16) -> u16

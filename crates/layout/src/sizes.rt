@@ -58,7 +58,7 @@ pub enum Refusal {
 fn within(n: u32, low: u32, high: u32, which: Size) -> Result<(), Refusal>
     ensures { refused result ≡ pick (in_range_of low high n) None (Some (1, size_number which)) }
 {
-    if low <= n && n <= high {
+    if (low..=high).contains(&n) {
         Ok(())
     } else {
         Err(Refusal::Size(which))
