@@ -3,7 +3,7 @@
 
 ghost use Rattle.std.specs.Prelude.{◌≡◌, ◌+◌, ◌*◌, ◌/◌, ◌%◌};
 
-// The halves of a word.
+// The halves of a word. (The library takes a word apart into bytes only, of which two would have to be joined again.)
 pub fn halves(w: u32) -> (u16, u16)
     ensures low { result.0 ≡ w % 65536 }
     ensures high { result.1 ≡ w / 65536 }
