@@ -18,7 +18,7 @@ const SIZES: Sizes = Sizes {
     windows: 4,
     programs: 3,
     side: 5,
-    dots: 50,
+    dots: 60,
 };
 
 // The bytes of which colours and offers are a part.
@@ -44,7 +44,7 @@ impl Chance {
         match self.below(80) {
             0 => i16::MIN,
             1 => i16::MAX,
-            k => (k / 10) as i16 - 2,
+            k => (k / 16) as i16 - 1,
         }
     }
 
@@ -85,7 +85,7 @@ impl Chance {
                 program,
                 x: self.place(),
                 y: self.place(),
-                wide: self.below(6),
+                wide: self.below(7),
                 high: self.below(6) + 1,
             },
             3 => Event::Close { program, window },
@@ -130,19 +130,19 @@ impl Chance {
     }
 
     fn by_person(&mut self, program: u8) -> Event {
-        match self.below(6) {
-            0 => Event::Offer {
+        match self.below(8) {
+            0 | 1 => Event::Offer {
                 program,
                 bytes: self.part(30),
             },
-            1 | 2 => Event::Point {
+            2 | 3 => Event::Point {
                 x: self.place(),
                 y: self.place(),
             },
-            3 => Event::Press {
+            4 | 5 => Event::Press {
                 down: self.below(3) > 0,
             },
-            4 => Event::Key {
+            6 => Event::Key {
                 key: u32::from(self.below(60000)).wrapping_mul(70000),
             },
             _ => Event::Paste,
@@ -152,8 +152,8 @@ impl Chance {
     fn event(&mut self, s: &State) -> Event {
         let (program, window) = self.asked(s);
         match self.below(8) {
-            0..=3 => self.on_windows(program, window),
-            4 | 5 => self.on_pictures(program, window),
+            0..=2 => self.on_windows(program, window),
+            3 | 4 => self.on_pictures(program, window),
             _ => self.by_person(program),
         }
     }
