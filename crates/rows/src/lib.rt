@@ -1,5 +1,5 @@
 // What carrying events out comes to, on worked rows and on cases in which something of one window might stay behind in another.
-// Every row is for a screen of 6 by 2 dots, 4 windows, 2 programs, sides up to 6 and 24 dots of all pictures.
+// They are carried out by `desktop`, and by `server` on lent memory with a screen that is fed by what it sends; and so are events by chance.
 #![tactic(auto)]
 
 #[cfg(test)]

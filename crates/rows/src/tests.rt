@@ -1,178 +1,60 @@
-// One table of events in bytes, with the screen and the words in bytes that they come to, and one test of all of it.
-use desktop::carry::carry_out;
-use desktop::look::dot_at;
-use desktop::told::Told;
-use layout::sizes::Sizes;
-use layout::state::State;
-use protocol::Kinds;
+// One table of events in bytes and one test of all of it, on `desktop` and on `server`; and events by chance, on both at once.
+mod on_desktop;
+mod on_server;
+mod random;
+mod table;
+
+use on_desktop::Plain;
+use on_server::Served;
+use std::alloc::Global;
 use std::process::Abort;
 use std::test::Fail;
+use table::{ROWS, Row, SIZES};
 
-struct Row {
-    name: &'static str,
-    call: &'static [u8],
-    seen: [u32; 12],
-    words: &'static [u8],
+// That two rows of words are the same, byte by byte.
+fn same_words(rt: &impl Abort, told: &[u8], expected: &[u8], name: &str) {
+    assert_eq!(rt; told.len(), expected.len(), "{name}");
+    for (byte, wanted) in told.iter().zip(expected.iter()) {
+        assert_eq!(rt; *byte, *wanted, "{name}");
+    }
 }
 
-const ROWS: [Row; 13] = [
-    Row {
-        name: "worked row A",
-        call: b"\x00\x00\x00\x00\x00\x00\x03\x00\x02\x00\x04\x00\x00\x01\x05\x00\x00\x00\x00\x00\x00\x03\x00\x02\x00\x01\x00\x00\x00",
-        seen: [1, 1, 1, 0, 0, 0, 1, 1, 1, 0, 0, 0],
-        words: b"\x00\x02\x00\x00\x01\xff\x00\x01\xff",
-    },
-    Row {
-        name: "worked row B",
-        call: b"\x00\x00\x00\x00\x00\x00\x04\x00\x02\x00\x04\x00\x00\x01\x05\x00\x00\x00\x00\x00\x00\x04\x00\x02\x00\x01\x00\x00\x00\x00\x01\x02\x00\x01\x00\x04\x00\x01\x00\x04\x01\x01\x01\x05\x01\x01\x00\x00\x00\x00\x04\x00\x01\x00\x02\x00\x00\x00\x03\x00\x00",
-        seen: [1, 1, 1, 1, 0, 0, 1, 1, 1, 1, 2, 2],
-        words: b"\x00\x02\x00\x00\x01\xff\x00\x01\xff\x01\x02\x01\x01\x01\xff\x01\x01\xff\x00\x01\xff",
-    },
-    Row {
-        name: "worked row C",
-        call: b"\x00\x00\xff\xff\x00\x00\x03\x00\x01\x00\x04\x00\x00\x01\x06\x00\x00\x00\x00\x00\x00\x03\x00\x07\x00\x00\x00\x08\x00\x00\x00\x09\x00\x00\x00\x09\x00\x00\x00\x00\x0a\x01\x0b\x41\x00\x00\x00\x09\x09\x00\x09\x00\x0a\x00\x0b\x42\x00\x00\x00",
-        seen: [8, 9, 0, 0, 0, 0, 0, 0, 0, 0, 0, 0],
-        words: b"\x00\x02\x00\x00\x01\xff\x00\x01\xff\x00\x03\x00\x01\x00\x00\x00\x00\x00\x00\x00\x00\x04\x00\x01\x00\x05\x00\x41\x00\x00\x00\x00\x03\x00\x06\x00\x00\x00\x01\x00\x00\x00\x00\x04\x00\x00\x00\x05\x00\x42\x00\x00\x00",
-    },
-    Row {
-        name: "worked row D",
-        call: b"\x00\x00\x00\x00\x00\x00\x04\x00\x01\x00\x04\x00\x00\x01\x06\x00\x00\x00\x00\x00\x00\x04\x00\x01\x00\x00\x00\x02\x00\x00\x00\x03\x00\x00\x00\x04\x00\x00\x00\x07\x00\x00\x00\x00\x00\x00\x03\x00\x01\x00\x01\x00\x00\x00",
-        seen: [1, 1, 2, 3, 0, 0, 0, 0, 0, 0, 0, 0],
-        words: b"\x00\x02\x00\x00\x01\xff\x00\x01\xff\x00\x01\xff",
-    },
-    Row {
-        name: "worked row E",
-        call: b"\x00\x00\x00\x00\x00\x00\x02\x00\x01\x00\x04\x00\x00\x01\x00\x01\x02\x00\x00\x00\x02\x00\x01\x00\x04\x01\x01\x01\x0a\x01\x08\x00\x01\x00\x05\x08\x01\x01\x00\x06\x09\x02\x00\x00\x00\x0a\x01\x0c",
-        seen: [0, 0, 0, 0, 0, 0, 0, 0, 0, 0, 0, 0],
-        words: b"\x00\x02\x00\x00\x01\xff\x01\x02\x01\x01\x01\xff\x00\x04\x00\x01\x00\x01\xff\x01\x00\xff\x00\x03\x00\x02\x00\x00\x00\x00\x00\x00\x00\x01\x04\x01\x01\x01\x06\x01\x01\x00\x05",
-    },
-    Row {
-        name: "worked row F",
-        call: b"\x00\x00\x00\x00\x00\x00\x07\x00\x01\x00\x00\x00\x00\x00\x00\x00\x03\x00\x01\x00\x04\x00\x00\x01\x05\x01\x00\x00\x00\x00\x00\x01\x00\x01\x00\x05\x00\x00\x00\x05\x00\x00\x02\x00\x00\x00\x02\x00\x01\x00\x05\x00\x00\x00",
-        seen: [0, 0, 0, 0, 0, 0, 0, 0, 0, 0, 0, 0],
-        words: b"\x00\x00\xff\x00\x02\x00\x00\x01\xff\x01\x00\xff\x00\x00\xff",
-    },
-    Row {
-        name: "a copy up and to the left that reads what it has not yet written",
-        call: b"\x00\x00\x00\x00\x00\x00\x04\x00\x02\x00\x04\x00\x00\x01\x06\x00\x00\x00\x00\x00\x00\x04\x00\x01\x00\x00\x00\x02\x00\x00\x00\x03\x00\x00\x00\x04\x00\x00\x00\x06\x00\x00\x00\x00\x01\x00\x04\x00\x05\x00\x00\x00\x06\x00\x00\x00\x07\x00\x00\x00\x08\x00\x00\x00\x07\x00\x00\x01\x00\x01\x00\x03\x00\x01\x00\x00\x00\x00\x00\x07\x00\x00\x00\x00\x00\x00\x03\x00\x02\x00\x01\x00\x00\x00",
-        seen: [6, 6, 7, 8, 0, 0, 5, 5, 6, 7, 0, 0],
-        words: b"\x00\x02\x00\x00\x01\xff\x00\x01\xff\x00\x01\xff\x00\x01\xff\x00\x01\xff",
-    },
-    Row {
-        name: "a copy down over itself",
-        call: b"\x00\x00\x00\x00\x00\x00\x03\x00\x02\x00\x04\x00\x00\x01\x06\x00\x00\x00\x00\x00\x00\x03\x00\x01\x00\x00\x00\x02\x00\x00\x00\x03\x00\x00\x00\x06\x00\x00\x00\x00\x01\x00\x03\x00\x04\x00\x00\x00\x05\x00\x00\x00\x06\x00\x00\x00\x07\x00\x00\x00\x00\x00\x00\x02\x00\x01\x00\x01\x00\x01\x00",
-        seen: [1, 2, 3, 0, 0, 0, 4, 1, 2, 0, 0, 0],
-        words: b"\x00\x02\x00\x00\x01\xff\x00\x01\xff\x00\x01\xff\x00\x01\xff",
-    },
-    Row {
-        name: "a window closed with the keys, and its number made anew",
-        call: b"\x00\x00\x00\x00\x00\x00\x02\x00\x02\x00\x04\x00\x00\x01\x0a\x01\x01\x00\x00\x00\x01\x00\x00\x00\x00\x02\x00\x02\x00\x04\x01\x00\x01\x0b\x41\x00\x00\x00\x0a\x00\x0a\x01\x0b\x42\x00\x00\x00",
-        seen: [0, 0, 0, 0, 0, 0, 0, 0, 0, 0, 0, 0],
-        words: b"\x00\x02\x00\x00\x01\xff\x00\x04\x00\x01\x00\x01\xff\x01\x02\x00\x01\x01\xff\x01\x04\x00\x01\x01\x05\x00\x42\x00\x00\x00",
-    },
-    Row {
-        name: "memory used again after a close",
-        call: b"\x00\x00\x00\x00\x00\x00\x02\x00\x02\x00\x04\x00\x00\x01\x05\x00\x00\x00\x00\x00\x00\x02\x00\x02\x00\x01\x00\x00\x00\x00\x01\x03\x00\x00\x00\x02\x00\x02\x00\x04\x01\x01\x01\x05\x01\x01\x00\x00\x00\x00\x02\x00\x02\x00\x02\x00\x00\x00\x01\x00\x00\x00\x00\x00\x00\x00\x00\x03\x00\x01\x00\x04\x00\x00\x01\x06\x00\x00\x01\x00\x00\x00\x01\x00\x09\x00\x00\x00",
-        seen: [0, 9, 0, 2, 2, 0, 0, 0, 0, 2, 2, 0],
-        words: b"\x00\x02\x00\x00\x01\xff\x00\x01\xff\x01\x02\x01\x01\x01\xff\x01\x01\xff\x00\x01\xff\x00\x02\x00\x00\x01\xff\x00\x01\xff",
-    },
-    Row {
-        name: "a press under an unshown window",
-        call: b"\x00\x00\x00\x00\x00\x00\x02\x00\x02\x00\x04\x00\x00\x01\x00\x01\x00\x00\x00\x00\x02\x00\x02\x00\x0a\x01\x04\x01\x01\x01\x0a\x01\x04\x01\x01\x00\x0a\x00\x0b\x07\x00\x00\x00",
-        seen: [0, 0, 0, 0, 0, 0, 0, 0, 0, 0, 0, 0],
-        words: b"\x00\x02\x00\x00\x01\xff\x01\x02\x01\x00\x04\x00\x01\x01\x01\xff\x01\x04\x01\x01\x01\x01\xff\x01\x04\x01\x00\x01\x05\x01\x07\x00\x00\x00",
-    },
-    Row {
-        name: "a held window that is closed is told nothing",
-        call: b"\x00\x00\x00\x00\x00\x00\x02\x00\x01\x00\x04\x00\x00\x01\x0a\x01\x01\x00\x00\x0a\x00\x09\x01\x00\x00\x00",
-        seen: [0, 0, 0, 0, 0, 0, 0, 0, 0, 0, 0, 0],
-        words: b"\x00\x02\x00\x00\x01\xff\x00\x04\x00\x01\x00\x01\xff",
-    },
-    Row {
-        name: "boxes at the edge, and places below 0",
-        call: b"\x00\x00\xfe\xff\xff\xff\x04\x00\x02\x00\x04\x00\x00\x01\x05\x00\x00\x00\x00\x00\x00\x04\x00\x02\x00\x03\x00\x00\x00\x05\x00\x00\x02\x00\x01\x00\x02\x00\x01\x00\x04\x00\x00\x00\x00\x01\x05\x00\x01\x00\x03\x00\x03\x00\x04\x01\x01\x01\x05\x01\x01\x00\x00\x00\x00\x03\x00\x03\x00\x05\x00\x00\x00\x05\x01\x01\x03\x00\x00\x00\x00\x00\x00\x00\x06\x00\x00\x00\x02\x01\x01\xff\xff\xfe\xff",
-        seen: [5, 5, 0, 0, 0, 0, 0, 0, 0, 0, 0, 0],
-        words: b"\x00\x02\x00\x00\x01\xff\x00\x01\xff\x00\x01\xff\x01\x02\x01\x01\x01\xff\x01\x01\xff\x01\x00\xff\x01\x01\xff",
-    },
-];
-
-const SIZES: Sizes = Sizes {
-    wide: 6,
-    high: 2,
-    windows: 4,
-    programs: 2,
-    side: 6,
-    dots: 24,
-};
-
-// What is left of a row that was carried out: the state, the pictures, and the words that were told.
-#[derive(Drop)]
-struct Left {
-    state: State,
-    pictures: [u32; 24],
-    words: [u8; 256],
-    used: usize,
-}
-
-fn write(told: Told, clip: &[u8], words: &mut [u8; 256], used: usize) -> Option<usize> {
-    protocol::write_word(told.program, told.word, clip, words, used)
-}
-
-fn carried(call: &[u8]) -> Result<Left, Fail> {
-    let mut state = State::new(4);
-    let mut pictures = [7; 24];
+fn row_on_desktop(rt: &impl Abort, heap: Global, row: &Row) -> Result<(), Fail> {
+    let mut plain = Plain::new(heap, SIZES)?;
     let mut words = [0; 256];
-    let mut used = 0usize;
-    let mut at = 0;
-    // each event says where the next begins; a test has no measure, so there are as many turns as bytes at most
-    for _ in 0..call.len() {
-        if at >= call.len() {
-            break;
-        }
-        let Ok((e, end)) = protocol::read(call, at, 2, Kinds::all()) else {
-            return Err(Fail::new("a byte in fault"));
-        };
-        let clip = state.clip.bytes;
-        let told = carry_out(SIZES, &mut state, &mut pictures, call, e);
-        if let Some(told) = told {
-            let Some(n) = write(told, clip.as_slice(), &mut words, used) else {
-                return Err(Fail::new("no room for a word"));
-            };
-            used = used.saturating_add(n);
-        }
-        at = end;
+    let used = plain.carry_all(row.call, &mut words)?;
+    for (k, dot) in row.seen.iter().enumerate() {
+        assert_eq!(rt; plain.dot(k), *dot, "{}", row.name);
     }
-    Ok(Left {
-        state,
-        pictures,
-        words,
-        used,
-    })
+    same_words(rt, words.get(..used).unwrap_or(&[]), row.words, row.name);
+    Ok(())
 }
 
-fn compare(rt: &impl Abort, row: &Row) -> Result<(), Fail> {
-    let left = carried(row.call)?;
-    for (k, dot) in row.seen.iter().enumerate() {
-        let i = (k % 6) as u16;
-        let j = (k / 6 % 2) as u16;
-        assert_eq!(rt;
-            dot_at(&left.state, &left.pictures, i, j),
-            *dot,
-            "{}",
-            row.name
-        );
+// Every row has fewer than 16 events.
+fn row_on_server(rt: &impl Abort, heap: Global, row: &Row) -> Result<(), Fail> {
+    let mut served = Served::start(heap, SIZES, 16)?;
+    let out = served.call(row.call)?;
+    assert!(rt; out.refusal.is_none(), "{}", row.name);
+    assert_eq!(rt; out.read, row.call.len(), "{}", row.name);
+    for (shown, dot) in served.screen().iter().zip(row.seen.iter()) {
+        assert_eq!(rt; *shown, *dot, "{}", row.name);
     }
-    assert_eq!(rt; left.used, row.words.len(), "{}", row.name);
-    for (told, expected) in left.words.iter().zip(row.words.iter()) {
-        assert_eq!(rt; *told, *expected, "{}", row.name);
-    }
+    same_words(rt, served.told(out), row.words, row.name);
     Ok(())
 }
 
 #[test]
 fn rows_come_to_their_screens_and_words(rt: HostRuntime) -> Result<(), Fail> {
     for row in &ROWS {
-        compare(&rt, row)?;
+        row_on_desktop(&rt, rt.alloc(), row)?;
+    }
+    Ok(())
+}
+
+#[test]
+fn rows_come_to_the_same_on_the_server(rt: HostRuntime) -> Result<(), Fail> {
+    for row in &ROWS {
+        row_on_server(&rt, rt.alloc(), row)?;
     }
     Ok(())
 }
