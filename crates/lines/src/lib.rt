@@ -1,6 +1,9 @@
 // What a program is told, as a line of text.
 #![tactic(auto)]
 
+ghost use Rattle.std.specs.Prelude.{◌≡◌, Some, take, drop, flat_map};
+ghost use Rattle.lines.specs.Lines.{spaced, text};
+
 use protocol::{Part, Word};
 use std::fmt;
 
@@ -12,16 +15,34 @@ pub struct Line<'a> {
     pub source: &'a [u8],
 }
 
-// The bytes of a part in decimal, each behind a space.
-fn show_bytes<W: fmt::Write>(f: &mut fmt::Formatter<W>, source: &[u8], part: Part) -> fmt::Result {
-    for b in source.iter().skip(part.from).take(part.count as usize) {
-        write!(f, " {b}")?;
+// Bytes in decimal, each behind a space.
+#[derive(Drop)]
+struct Spaced<'a>(&'a [u8]);
+
+impl fmt::Display for Spaced<'_> {
+    ghost output = { λ s. Some (flat_map spaced s.0.now) };
+
+    fn fmt<W: fmt::Write>(&self, f: &mut fmt::Formatter<W>) -> fmt::Result {
+        for b in self.0 {
+            write!(f, " {b}")?;
+        }
+        Ok(())
     }
-    Ok(())
+}
+
+// The bytes of a part, as far as the source has them.
+fn part_of(source: &[u8], part: Part) -> &[u8]
+    ensures { result.now ≡ take part.count (drop part.from source.now) }
+{
+    let behind = source.get(part.from..).unwrap_or(&[]);
+    let count = usize::from(part.count);
+    behind.get(..count).unwrap_or(behind)
 }
 
 // The program, the word, the window and what the word says.
 impl fmt::Display for Line<'_> {
+    ghost output = { λ l. Some (text l.program l.source.now l.word) };
+
     fn fmt<W: fmt::Write>(&self, f: &mut fmt::Formatter<W>) -> fmt::Result {
         let program = self.program;
         match self.word {
@@ -36,8 +57,8 @@ impl fmt::Display for Line<'_> {
             ),
             Word::Typed { window, key } => write!(f, "{program} typed {window} {key}"),
             Word::Pasted { window, bytes } => {
-                write!(f, "{program} pasted {window}")?;
-                show_bytes(f, self.source, bytes)
+                let bytes = Spaced(part_of(self.source, bytes));
+                write!(f, "{program} pasted {window}{bytes}")
             }
         }
     }
