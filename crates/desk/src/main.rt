@@ -1,19 +1,18 @@
 // The desk: the plain description as a program. It carries out one event after another and looks at every window for every dot.
 #![tactic(auto)]
 
-mod told;
-
 use anyhow::Context;
 use asked::sizes;
 use desktop::carry::carry_out;
 use desktop::look::dot_at;
+use desktop::told::Told;
 use layout::budget::Budget;
 use layout::sizes::{Refusal, Sizes};
 use layout::state::State;
+use lines::Line;
 use protocol::Kinds;
 use std::io::Read;
 use std::process::ExitCode;
-use told::Line;
 
 const USAGE: &str = "usage: desk ACROSS DOWN WINDOWS PROGRAMS SIDE DOTS < EVENTS";
 
@@ -43,9 +42,13 @@ fn run(rt: &HostRuntime, z: Sizes, budget: Budget, call: &[u8]) -> anyhow::Resul
             Ok((e, end)) => {
                 let clip = s.clip.bytes;
                 let told = carry_out(z, &mut s, pictures.as_mut_slice(), call, e);
-                if let Some(told) = told {
-                    let bytes = clip.as_slice();
-                    rt.println(Line { told, bytes })?;
+                if let Some(Told { program, word }) = told {
+                    let source = clip.as_slice();
+                    rt.println(Line {
+                        program,
+                        word,
+                        source,
+                    })?;
                 }
                 show(rt, z, &s, pictures.as_slice())?;
                 at = end;
