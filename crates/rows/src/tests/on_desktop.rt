@@ -16,7 +16,7 @@ pub struct Plain {
 
 impl Plain {
     // An empty desk; what lies in the pictures is of no window.
-    pub fn new(heap: Global, sizes: Sizes) -> Result<Plain, Fail> {
+    pub(super) fn new(heap: Global, sizes: Sizes) -> Result<Plain, Fail> {
         let pictures = vec![in heap; 7u32; sizes.dots as usize]?;
         Ok(Plain {
             sizes,
@@ -26,12 +26,12 @@ impl Plain {
     }
 
     // How many programs there are.
-    pub fn programs(&self) -> u8 {
+    pub(super) fn programs(&self) -> u8 {
         self.sizes.programs.min(64) as u8
     }
 
     // The dot k of the screen, by rows.
-    pub fn dot(&self, k: usize) -> u32 {
+    pub(super) fn dot(&self, k: usize) -> u32 {
         let wide = (self.sizes.wide as usize).max(1);
         let i = (k % wide).min(4095) as u16;
         let j = (k / wide).min(4095) as u16;
@@ -39,7 +39,7 @@ impl Plain {
     }
 
     // Carries an event of a call out, and writes what is told behind the `used` bytes of words: where the words end.
-    pub fn carry(
+    pub(super) fn carry(
         &mut self,
         call: &[u8],
         e: Event,
@@ -59,7 +59,7 @@ impl Plain {
     }
 
     // The events of a call, one after another: where the words end.
-    pub fn carry_all(&mut self, call: &[u8], words: &mut [u8]) -> Result<usize, Fail> {
+    pub(super) fn carry_all(&mut self, call: &[u8], words: &mut [u8]) -> Result<usize, Fail> {
         let mut used = 0;
         let mut at = 0;
         // each event says where the next begins; a test has no measure, so there are as many turns as bytes at most

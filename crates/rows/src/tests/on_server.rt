@@ -17,7 +17,7 @@ pub struct Served {
 
 impl Served {
     // An empty desk in memory that is just long enough for calls of so many events; nothing that lies in it before is 0 but the screen.
-    pub fn start(heap: Global, sizes: Sizes, events: usize) -> Result<Served, Fail> {
+    pub(super) fn start(heap: Global, sizes: Sizes, events: usize) -> Result<Served, Fail> {
         let Ok(needs) = sizes.budget() else {
             return Err(Fail::new("a size out of its range"));
         };
@@ -41,7 +41,7 @@ impl Served {
     }
 
     // Carries a call out, and puts what it sends onto the screen.
-    pub fn call(&mut self, call: &[u8]) -> Result<Outcome, Fail> {
+    pub(super) fn call(&mut self, call: &[u8]) -> Result<Outcome, Fail> {
         let out = event(
             call,
             self.pictures.as_mut_slice(),
@@ -61,12 +61,12 @@ impl Served {
     }
 
     // What a call told.
-    pub fn told(&self, out: Outcome) -> &[u8] {
+    pub(super) fn told(&self, out: Outcome) -> &[u8] {
         self.words.as_slice().get(..out.words).unwrap_or(&[])
     }
 
     // The screen by rows.
-    pub fn screen(&self) -> &[u32] {
+    pub(super) fn screen(&self) -> &[u32] {
         self.screen.as_slice()
     }
 }
