@@ -5,6 +5,8 @@ ghost use Rattle.script.specs.Tables.{number_of, fields_of, row_of};
 
 use crate::fields::Field;
 
+// (protocol has such an enum for the first byte, within itself. These methods are about text, and a crate can give no methods to another's type: with one
+// enum each would be a function beside it.)
 #[derive(Clone, Copy)]
 pub enum Kind {
     Make,
