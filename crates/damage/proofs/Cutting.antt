@@ -56,24 +56,31 @@ rect-empty r b e = let h = e r.left r.top in grind (arith, nat_tests)
 pub rect-full : (r : Rect) → Empty false r → (r.left < r.right) × (r.top < r.below)
 rect-full r e = (grind (arith, nat_tests), grind (arith, nat_tests))
 
--- the next line: what is left is its cell, or its row of cells, and then what is left behind it
-pub row_more : (s : State) (p : List ℕ) (f : ℕ → ℕ → Bool) (c d a k : ℕ) (xs : List ℕ) (at₀ at : ℕ) (all old new : List ℕ) → k < length xs → Left at₀ at all (words_of s p (row_of f c d a (drop k xs))) old new →
-    Left at₀ at all (words_of s p (cell f a (get_or xs k 0) c d) ++ words_of s p (row_of f c d (get_or xs k 0) (drop (k + 1) xs))) old new
+-- the next line
+pub row_more : (s : State) (p : List ℕ) (f : ℕ → ℕ → Bool) (c d a k : ℕ) (xs : List ℕ) (b : ℕ) → k < length xs → b ≡ get_or xs k 0 →
+    words_of s p (row_of f c d a (drop k xs)) ≡ words_of s p (cell f a b c d) ++ words_of s p (row_of f c d b (drop (k + 1) xs))
 unfolding row_of
-row_more s p f c d a k xs at₀ at all old new h l =
-    let b = get_or xs k 0 in
-    left_by at₀ at all (words_of s p (row_of f c d a (drop k xs))) _ old new (ap (λ t. words_of s p (row_of f c d a t)) (drop_more xs k 0 h) ∙ words_append s p (cell f a b c d) (row_of f c d b (drop (k + 1) xs))) l
+row_more s p f c d a k xs b h e = ap (λ t. words_of s p (row_of f c d a t)) (drop_more xs k 0 h) ∙ rw (← e) (words_append s p (cell f a b c d) (row_of f c d b (drop (k + 1) xs)))
+
+-- and of what is left: its cell, or its row of cells, and then what is left behind it
+pub row-left : (s : State) (p : List ℕ) (f : ℕ → ℕ → Bool) (c d a k : ℕ) (xs : List ℕ) (at₀ at : ℕ) (all old new : List ℕ) → k < length xs → Left at₀ at all (words_of s p (row_of f c d a (drop k xs))) old new →
+    Left at₀ at all (words_of s p (cell f a (get_or xs k 0) c d) ++ words_of s p (row_of f c d (get_or xs k 0) (drop (k + 1) xs))) old new
+row-left s p f c d a k xs at₀ at all old new h l =
+    left_by at₀ at all (words_of s p (row_of f c d a (drop k xs))) _ old new (row_more s p f c d a k xs (get_or xs k 0) h refl) l
 
 pub row-end : (s : State) (p : List ℕ) (f : ℕ → ℕ → Bool) (c d a k : ℕ) (xs : List ℕ) → length xs ≤ k → words_of s p (row_of f c d a (drop k xs)) ≡ []
 unfolding row_of
 row-end s p f c d a k xs h = ap (λ t. words_of s p (row_of f c d a t)) (drop_all k xs h) ∙ words-none s p
 
-pub cells-more : (s : State) (p : List ℕ) (f : ℕ → ℕ → Bool) (xs : List ℕ) (c k : ℕ) (ys : List ℕ) (at₀ at : ℕ) (all old new : List ℕ) → k < length ys → Left at₀ at all (words_of s p (cells_of f xs c (drop k ys))) old new →
-    Left at₀ at all (words_of s p (row_of f c (get_or ys k 0) 0 xs) ++ words_of s p (cells_of f xs (get_or ys k 0) (drop (k + 1) ys))) old new
+pub cells-more : (s : State) (p : List ℕ) (f : ℕ → ℕ → Bool) (xs : List ℕ) (c k : ℕ) (ys : List ℕ) (d : ℕ) → k < length ys → d ≡ get_or ys k 0 →
+    words_of s p (cells_of f xs c (drop k ys)) ≡ words_of s p (row_of f c d 0 xs) ++ words_of s p (cells_of f xs d (drop (k + 1) ys))
 unfolding cells_of
-cells-more s p f xs c k ys at₀ at all old new h l =
-    let d = get_or ys k 0 in
-    left_by at₀ at all (words_of s p (cells_of f xs c (drop k ys))) _ old new (ap (λ t. words_of s p (cells_of f xs c t)) (drop_more ys k 0 h) ∙ words_append s p (row_of f c d 0 xs) (cells_of f xs d (drop (k + 1) ys))) l
+cells-more s p f xs c k ys d h e = ap (λ t. words_of s p (cells_of f xs c t)) (drop_more ys k 0 h) ∙ rw (← e) (words_append s p (row_of f c d 0 xs) (cells_of f xs d (drop (k + 1) ys)))
+
+pub cells-left : (s : State) (p : List ℕ) (f : ℕ → ℕ → Bool) (xs : List ℕ) (c k : ℕ) (ys : List ℕ) (at₀ at : ℕ) (all old new : List ℕ) → k < length ys → Left at₀ at all (words_of s p (cells_of f xs c (drop k ys))) old new →
+    Left at₀ at all (words_of s p (row_of f c (get_or ys k 0) 0 xs) ++ words_of s p (cells_of f xs (get_or ys k 0) (drop (k + 1) ys))) old new
+cells-left s p f xs c k ys at₀ at all old new h l =
+    left_by at₀ at all (words_of s p (cells_of f xs c (drop k ys))) _ old new (cells-more s p f xs c k ys (get_or ys k 0) h refl) l
 
 pub cells-end : (s : State) (p : List ℕ) (f : ℕ → ℕ → Bool) (xs : List ℕ) (c k : ℕ) (ys : List ℕ) → length ys ≤ k → words_of s p (cells_of f xs c (drop k ys)) ≡ []
 unfolding cells_of

@@ -47,12 +47,18 @@ pub first-there : (z : Size) (ws dots behind : List ℕ) (h : Head) → 2 ≤ le
 first-there z ws dots behind h l e o s =
     record {
       screen = refl;
+      is = e;
+      on = o;
+      dots_are = s.1 ∙ ap (take (h.wide * h.high)) behind-two;
+      rest_is = s.2 ∙ ap (drop (h.wide * h.high)) behind-two;
       read = from-head z.wide z.high ws h true l e (and_from _ _ o (le-leb _ _ s.0)) ∙
           ap (λ t. before (box_of h (others ws)) (boxes_in z.wide z.high t)) (sym s.2) ∙ ap (λ t. before t (boxes_in z.wide z.high behind)) same;
       size = s.3;
       ends = let n = length-take-le (length ws - 2) (drop 2 ws) (omega (arith, length-drop 2 ws)) in omega (arith, n, s.3, s.4, l);
     }
   where
+    behind-two : others ws ≡ drop 2 ws
+    behind-two = take_all (length ws - 2) (drop 2 ws) (omega (arith, length-drop 2 ws))
     same : box_of h (others ws) ≡ box_of h dots
     same = ap (λ (t : List ℕ). record { x = h.x; y = h.y; wide = h.wide; high = h.high; dots = t }) (sym (take_all (h.wide * h.high) dots (omega (arith, s.3)) ∙ s.1))
 

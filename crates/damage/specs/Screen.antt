@@ -1,5 +1,5 @@
 -- The screen's side: words read as boxes, and what boxes make of a screen.
-use Rattle.std.specs.Prelude.{◌≡◌, ℕ, zero, suc, ◌+◌, ◌*◌, ◌/◌, ◌%◌, ◌<◌, ◌≤◌, Bool, ◌&&◌, ◌⊎◌, List, [], ◌∷◌, ◌++◌, length, take, drop, Some, None, Option, nat_le, slice_index}
+use Rattle.std.specs.Prelude.{◌≡◌, ℕ, zero, suc, ◌+◌, ◌*◌, ◌/◌, ◌%◌, ◌<◌, ◌≤◌, Bool, true, ◌&&◌, ◌⊎◌, List, [], ◌∷◌, ◌++◌, length, take, drop, Some, None, Option, nat_le, slice_index}
 use Rattle.model.specs.Basics.{pick}
 use Rattle.model.specs.Promise.{Box, with_boxes}
 use Rattle.model.specs.System.{Formed}
@@ -61,9 +61,13 @@ pub record Shown (wide high : ℕ) (bs : List Box) (old new : List ℕ) : Type 0
   pub behind : (k : ℕ) → wide * high ≤ k → slice_index new k ≡ slice_index old k
   pub len : length new ≡ length old
 
--- the words begin with a box that has this head and these dots, and what follows it is the rest
+-- the words begin with a box on the screen that has this head and these dots, whatever follows it, and what follows it is the rest
 pub record First (z : Size) (ws : List ℕ) (y : Size) (h : Head) (dots rest : List ℕ) : Type 0 where
   pub screen : y ≡ z
+  pub is : h ≡ head_of (slice_index ws 0) (slice_index ws 1)
+  pub on : lies_on z.wide z.high h ≡ true
+  pub dots_are : dots ≡ take (h.wide * h.high) (drop 2 ws)
+  pub rest_is : rest ≡ drop (h.wide * h.high) (drop 2 ws)
   pub read : boxes_in z.wide z.high ws ≡ before (box_of h dots) (boxes_in z.wide z.high rest)
   pub size : length dots ≡ h.wide * h.high
   pub ends : length ws ≡ 2 + (length dots + length rest)

@@ -4,7 +4,7 @@ use Rattle.layout.specs.State.{desk_of}
 use Rattle.damage.specs.Cells.{row_of, cells_of}
 use Rattle.damage.specs.Scenes.{in_scene, written}
 use Rattle.damage.proofs.Left.{left_by, left-more, left_end, left-room, left-start}
-use Rattle.damage.proofs.Cutting.{cells-more, cells-end, even-more, low-more}
+use Rattle.damage.proofs.Cutting.{cells-left, cells-end, even-more, low-more}
 use Rattle.damage.proofs.scene.Scene.send_cells.Goals as goal
 
 pub loop-y-init : goal.loop-y-init
@@ -24,7 +24,7 @@ send_row-end-requires c =
     let h = c.loop-y-test.true in
     let i = c.loop-y.invariant in
     let all = written s (cells_of f xs 0 ys) in
-    let m = cells-more s.after.now s.pictures.now f xs top k ys c.args.at c.loop-y.end all c.args.sent.now c.loop-y.sent h i.sent in
+    let m = cells-left s.after.now s.pictures.now f xs top k ys c.args.at c.loop-y.end all c.args.sent.now c.loop-y.sent h i.sent in
     record {
       low = (low-more k ys h i.low).0;
       down = λ u j g l. (even-more (λ v. front_at (desk_of s.after.now s.pictures.now) u v) top k ys h (i.down u)).0 j g l;
@@ -43,7 +43,7 @@ loop-y-preserved c =
     let h = c.loop-y-test.true in
     let i = c.loop-y.invariant in
     let all = written s (cells_of f xs 0 ys) in
-    let m = cells-more s.after.now s.pictures.now f xs top k ys c.args.at c.loop-y.end all c.args.sent.now c.loop-y.sent h i.sent in
+    let m = cells-left s.after.now s.pictures.now f xs top k ys c.args.at c.loop-y.end all c.args.sent.now c.loop-y.sent h i.sent in
     record {
       sent = left-more c.args.at c.loop-y.end c.send_row-end.result all (written s (row_of f top below 0 xs)) (written s (cells_of f xs below (drop (k + 1) ys))) c.args.sent.now c.loop-y.sent c.send_row-end.new.sent m
           c.send_row-end.ensures c.send_row-end.auto.sent;

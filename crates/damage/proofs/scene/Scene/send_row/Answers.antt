@@ -5,7 +5,7 @@ use Rattle.layout.specs.State.{desk_of}
 use Rattle.damage.specs.Cells.{row_of}
 use Rattle.damage.specs.Scenes.{in_scene, written}
 use Rattle.damage.proofs.Left.{left_by, left-more, left_end, left-room, left-start, sent-none, sent_by}
-use Rattle.damage.proofs.Cutting.{row_more, row-end, row-words-flat, even-more, low-more}
+use Rattle.damage.proofs.Cutting.{row-left, row-end, row-words-flat, even-more, low-more}
 use Rattle.damage.proofs.scene.Scene.send_row.Goals as goal
 
 pub returns-then-top-below : goal.returns-then-top-below
@@ -26,7 +26,7 @@ send_cell-end-requires c =
     let h = c.loop-x-test.true in
     let i = c.loop-x.invariant in
     let all = written s (row_of f top below 0 xs) in
-    let m = row_more s.after.now s.pictures.now f top below a k xs c.args.at c.loop-x.end all c.args.sent.now c.loop-x.sent h i.sent in
+    let m = row-left s.after.now s.pictures.now f top below a k xs c.args.at c.loop-x.end all c.args.sent.now c.loop-x.sent h i.sent in
     record {
       right = (low-more k xs h i.low).0;
       below = c.requires.low;
@@ -52,7 +52,7 @@ loop-x-preserved c =
     let h = c.loop-x-test.true in
     let i = c.loop-x.invariant in
     let all = written s (row_of f top below 0 xs) in
-    let m = row_more s.after.now s.pictures.now f top below a k xs c.args.at c.loop-x.end all c.args.sent.now c.loop-x.sent h i.sent in
+    let m = row-left s.after.now s.pictures.now f top below a k xs c.args.at c.loop-x.end all c.args.sent.now c.loop-x.sent h i.sent in
     record {
       sent = left-more c.args.at c.loop-x.end c.send_cell-end.result all (written s (cell f a b top below)) (written s (row_of f top below b (drop (k + 1) xs))) c.args.sent.now c.loop-x.sent c.send_cell-end.new.sent m
           c.send_cell-end.ensures c.send_cell-end.auto.sent;
