@@ -93,11 +93,14 @@ impl<T: Copy, const N: usize> Few<T, N> {
         ensures { IsFiltered (CalledAt F.FnMut) f (held self.old) (held self.new) }
     {
         let all = *self;
-        self.len = 0;
+        // counted here and not in the list, which would be written at each element
+        let mut kept = 0;
         for x in all.as_slice() {
             if f(x) {
-                self.push(*x);
+                self.items[kept] = *x;
+                kept += 1;
             }
         }
+        self.len = kept;
     }
 }

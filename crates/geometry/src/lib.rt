@@ -53,7 +53,8 @@ impl Rect {
     pub fn contains(self, i: u16, j: u16) -> bool
         ensures { result ≡ in_rect self i j }
     {
-        (self.left..self.right).contains(&i) && (self.top..self.below).contains(&j)
+        // by comparisons: through the ranges of its sides a walk over many boxes took a fifth longer
+        self.left <= i && i < self.right && self.top <= j && j < self.below
     }
 
     // The dots that both boxes have.

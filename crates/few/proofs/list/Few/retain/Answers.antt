@@ -3,7 +3,7 @@ use Rattle.std.specs.Fn.{CalledAt}
 use Rattle.std.proofs.lemmas.Fn.{called_at}
 use Rattle.std.specs.List.{items_where_true}
 use Rattle.std.proofs.lemmas.Bool.{lt-ltb}
-use Rattle.std.proofs.lemmas.List.{length-append, length-take-le}
+use Rattle.std.proofs.lemmas.List.{length-append, length-take-le, take_more_set}
 use Rattle.std.proofs.Retain.{picked_push_true, picked_push_false, answers_push}
 use Rattle.few.specs.Held.{held, pick}
 use Rattle.few.proofs.list.Few.retain.Goals as goal
@@ -22,27 +22,26 @@ loop-x-preserved g c =
     let m = ap length e in
     let h : length bs < length old = omega (arith, v.1) in
     let at : x ≡ get_or old (length bs) x = c.x-item.is ∙ ap (λ l. get_or l c.loop-x.x-index x) e ∙ ap (λ k. get_or old k x) (sym v.1) in
+    let short : c.loop-x.kept < length c.loop-x.self.items = omega (arith, v.1, c.loop-x.invariant.1, c.loop-x.self.whole, length-take-le c.args.self.now.len c.args.self.now.items (omega arith)) in
     elim c.if-f.branch [
-      | then-f w ↦
-          let r : w.push.result ≡ true = w.push.ensures.answer ∙ lt-ltb _ _ (omega (arith, length-take-le c.args.self.now.len c.args.self.now.items (omega arith))) in
-          let p = w.push.ensures.items ∙ ap (λ b. pick b (held c.loop-x.self ++ x ∷ []) (held c.loop-x.self)) r in (
-            search of_calls,
-            rw (w.self-is, p, length-append (held c.loop-x.self) (x ∷ [])) (omega arith),
-            (
-              bs ++ true ∷ [],
-              length-append bs (true ∷ []) ∙ ap (λ k. k + 1) v.1,
-              answers_push (CalledAt g.F.FnMut) _ _ _ bs old x true h at v.2 (called_at g.F.FnMut c.f.ensures w.if-f.true),
-              rw w.self-is (p ∙ ap (λ l. l ++ x ∷ []) v.3 ∙ ap (λ y. items_where_true bs old ++ y ∷ []) at ∙ sym (picked_push_true bs old x h)),
-            ),
-          )
+      | then-f w ↦ (
+        search of_calls,
+        omega (arith, c.loop-x.invariant.1),
+        (
+          bs ++ true ∷ [],
+          length-append bs (true ∷ []) ∙ ap (λ k. k + 1) v.1,
+          answers_push (CalledAt g.F.FnMut) _ _ _ bs old x true h at v.2 (called_at g.F.FnMut c.f.ensures w.if-f.true),
+          rw (w.self-is, w.kept-is) (take_more_set c.loop-x.self.items c.loop-x.kept x short ∙ ap (λ l. l ++ x ∷ []) v.3 ∙ ap (λ y. items_where_true bs old ++ y ∷ []) at ∙ sym (picked_push_true bs old x h)),
+        ),
+      )
       | else-f w ↦ (
         search of_calls,
-        rw w.self-is (omega arith),
+        omega (arith, c.loop-x.invariant.1),
         (
           bs ++ false ∷ [],
           length-append bs (false ∷ []) ∙ ap (λ k. k + 1) v.1,
           answers_push (CalledAt g.F.FnMut) _ _ _ bs old x false h at v.2 (called_at g.F.FnMut c.f.ensures w.if-f.false),
-          rw w.self-is (v.3 ∙ sym (picked_push_false bs old)),
+          rw (w.self-is, w.kept-is) (v.3 ∙ sym (picked_push_false bs old)),
         ),
       )
     ]
