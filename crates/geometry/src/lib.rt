@@ -53,7 +53,7 @@ impl Rect {
     pub fn contains(self, i: u16, j: u16) -> bool
         ensures { result ≡ in_rect self i j }
     {
-        // by comparisons: through the ranges of its sides a walk over many boxes took a fifth longer
+        // by comparisons: through the ranges of its sides a walk over many boxes took a sixth longer
         self.left <= i && i < self.right && self.top <= j && j < self.below
     }
 
