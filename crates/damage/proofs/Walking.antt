@@ -59,6 +59,7 @@ first-there z ws dots behind h l e o s =
   where
     behind-two : others ws ≡ drop 2 ws
     behind-two = take_all (length ws - 2) (drop 2 ws) (omega (arith, length-drop 2 ws))
+
     same : box_of h (others ws) ≡ box_of h dots
     same = ap (λ (t : List ℕ). record { x = h.x; y = h.y; wide = h.wide; high = h.high; dots = t }) (sym (take_all (h.wide * h.high) dots (omega (arith, s.3)) ∙ s.1))
 
